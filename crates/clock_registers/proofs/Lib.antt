@@ -1,0 +1,4 @@
+pub mod FitLaws
+pub mod SecondLaws
+pub mod AccessLaws
+pub mod KeptLaws

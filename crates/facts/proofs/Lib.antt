@@ -1,0 +1,6 @@
+pub mod ChoiceLaws
+pub mod RefusalLaws
+pub mod CounterLaws
+pub mod BankingLaws
+pub mod BitLaws
+pub mod ListLaws

@@ -1,0 +1,54 @@
+-- Ordered refusals: the answer is the first test's that holds, or the accepted one where none does. Assumes nothing.
+use mathlib.Core.Bool.{Bool, true, false}
+use mathlib.Core.Path.{_≡_, refl, sym, ap, _∙_}
+use mathlib.Core.Logic.{_⊎_, inl, inr}
+use mathlib.Core.List.{List, [], _∷_, _++_}
+use Rattle.facts.specs.Choice.{pick, either}
+use Rattle.facts.specs.Refusals.{No, no, firstNo, anyNo}
+use Rattle.facts.proofs.ChoiceLaws.{neither}
+
+-- t is the first of ts that holds
+pub record First {R : Type 0} (ts : List (No R)) : Type 0 where
+  pub before : List (No R)
+  pub test : No R
+  pub after : List (No R)
+  pub is : ts ≡ before ++ (test ∷ after)
+  pub none-before : anyNo before ≡ false
+  pub holds : test .holds ≡ true
+
+-- none holds, or there is a first that does
+pub none-or-first : {R : Type 0} (ts : List (No R)) → (anyNo ts ≡ false) ⊎ First ts
+none-or-first [] = inl refl
+none-or-first {R} (t ∷ ts) = go (t .holds) refl (none-or-first ts)
+  where
+    go : (b : Bool) → t .holds ≡ b → (anyNo ts ≡ false) ⊎ First ts → (anyNo (t ∷ ts) ≡ false) ⊎ First (t ∷ ts)
+    go true h r = inr (record { before = []; test = t; after = ts; is = refl; none-before = refl; holds = h })
+    go false h (inl n) = inl (rw h n)
+    go false h (inr f) =
+        inr
+        (record {
+          before = t ∷ f .before;
+          test = f .test;
+          after = f .after;
+          is = ap (λ (l : List (No R)). t ∷ l) (f .is);
+          none-before = rw h (f .none-before);
+          holds = f .holds;
+        })
+
+module _ {R A : Type 0} (refuse : R → A) (a : A) where
+  pub first-answers : (ts : List (No R)) (f : First ts) → firstNo refuse ts a ≡ refuse (f .test .why)
+  first-answers ts f = ap (λ (l : List (No R)). firstNo refuse l a) (f .is) ∙ go (f .before) (f .none-before)
+    where
+      go : (before : List (No R)) → anyNo before ≡ false
+          → firstNo refuse (before ++ (f .test ∷ f .after)) a ≡ refuse (f .test .why)
+      go [] e = ap (λ (b : Bool). pick b (refuse (f .test .why)) (firstNo refuse (f .after) a)) (f .holds)
+      go (s ∷ before) e =
+          let n = neither (s .holds) (anyNo before) e in
+          ap (λ (b : Bool). pick b (refuse (s .why)) (firstNo refuse (before ++ (f .test ∷ f .after)) a)) (n .0)
+          ∙ go before (n .1)
+
+  pub none-accepts : (ts : List (No R)) → anyNo ts ≡ false → firstNo refuse ts a ≡ a
+  none-accepts [] e = refl
+  none-accepts (t ∷ ts) e =
+      let n = neither (t .holds) (anyNo ts) e in
+      ap (λ (b : Bool). pick b (refuse (t .why)) (firstNo refuse ts a)) (n .0) ∙ none-accepts ts (n .1)

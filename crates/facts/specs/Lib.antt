@@ -1,0 +1,5 @@
+pub mod Choice
+pub mod Refusals
+pub mod Counter
+pub mod Banking
+pub mod Listed

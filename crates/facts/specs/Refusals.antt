@@ -1,0 +1,21 @@
+-- Ordered refusals: a list of tests, each with what is answered where it holds.
+use mathlib.Core.Bool.{Bool}
+use mathlib.Core.List.{List, [], _∷_}
+use Rattle.facts.specs.Choice.{pick, either}
+
+pub record No (R : Type 0) : Type 0 where
+  pub holds : Bool
+  pub why : R
+
+abbrev pub no : {R : Type 0} → Bool → R → No R
+no b w = record { holds = b; why = w }
+
+-- the first that holds, made an answer by refuse; else a
+abbrev pub firstNo : {R A : Type 0} → (R → A) → List (No R) → A → A
+firstNo refuse [] a = a
+firstNo refuse (t ∷ ts) a = pick (t .holds) (refuse (t .why)) (firstNo refuse ts a)
+
+-- whether one of them holds
+abbrev pub anyNo : {R : Type 0} → List (No R) → Bool
+anyNo [] = Bool.false
+anyNo (t ∷ ts) = either (t .holds) (anyNo ts)

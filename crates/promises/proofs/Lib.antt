@@ -1,0 +1,3 @@
+pub mod TimeLaws
+pub mod Demand3
+pub mod Bench
