@@ -42,7 +42,8 @@ ticks (suc n) c = tick (ticks n c)
 pub record Gone (halt : Bool) (sub n x k : ℕ) : Type 0 where
   pub value : x ≡ pick halt sub (steps clocks n sub)
   pub carried : k ≡ pick halt 0 (count clocks n sub)
-  pub room : x < 2097152
+  -- it fits the word that holds it
+  pub room : x < 4294967296
 
 -- "unfit state"; "clock time would pass 2^64 - 1 seconds"
 abbrev pub numberOf : AdvanceRefusal → ℕ
