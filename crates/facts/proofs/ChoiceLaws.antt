@@ -1,6 +1,7 @@
 -- Choices and tests: what a joined test says of its parts, and that a determined answer is one. Assumes nothing.
 use mathlib.Core.Bool.{Bool, true, false, not}
 use mathlib.Core.Path.{_≡_, refl, sym, _∙_}
+use mathlib.Core.Logic.{_⊎_, inl, inr}
 use Prim.Native.Nat.{ℕ, _<_}
 use native.Mathlib.Omega.{arith}
 use lib.Dec.{eqb}
@@ -14,13 +15,15 @@ coincide p q = p ∙ sym q
 pub false≢true : {A : Type 0} → false ≡ true → A
 false≢true e = absurd (let z : _≡_ {A = ℕ} 0 1 = cc in omega arith)
 
+pub both-parts : (a b : Bool) → both a b ≡ true → (a ≡ true) × (b ≡ true)
+both-parts true b e = (refl, e)
+both-parts false b e = false≢true e
+
 pub both-left : (a b : Bool) → both a b ≡ true → a ≡ true
-both-left true b e = refl
-both-left false b e = e
+both-left a b e = both-parts a b e .0
 
 pub both-right : (a b : Bool) → both a b ≡ true → b ≡ true
-both-right true b e = e
-both-right false b e = false≢true e
+both-right a b e = both-parts a b e .1
 
 pub both-true : {a b : Bool} → a ≡ true → b ≡ true → both a b ≡ true
 both-true p q = rw p q
@@ -44,6 +47,10 @@ either-true false = refl
 pub either-false : (a : Bool) → either a false ≡ a
 either-false true = refl
 either-false false = refl
+
+pub either-cases : (a b : Bool) → either a b ≡ true → (a ≡ true) ⊎ (b ≡ true)
+either-cases true b e = inl refl
+either-cases false b e = inr e
 
 pub neither : (a b : Bool) → either a b ≡ false → (a ≡ false) × (b ≡ false)
 neither true b e = false≢true (sym e)

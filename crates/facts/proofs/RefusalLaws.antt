@@ -3,6 +3,8 @@ use mathlib.Core.Bool.{Bool, true, false}
 use mathlib.Core.Path.{_≡_, refl, sym, ap, _∙_}
 use mathlib.Core.Logic.{_⊎_, inl, inr}
 use mathlib.Core.List.{List, [], _∷_, _++_}
+use Prim.Native.Nat.{ℕ, zero, suc}
+use lib.ListN.{getD}
 use Rattle.facts.specs.Choice.{pick, either}
 use Rattle.facts.specs.Refusals.{No, no, firstNo, anyNo}
 use Rattle.facts.proofs.ChoiceLaws.{neither}
@@ -34,6 +36,13 @@ none-or-first {R} (t ∷ ts) = go (t .holds) refl (none-or-first ts)
           none-before = rw h (f .none-before);
           holds = f .holds;
         })
+
+-- where none holds, each does not
+pub none-at : {R : Type 0} (ts : List (No R)) (k : ℕ) (d : No R) → d .holds ≡ false → anyNo ts ≡ false
+    → getD ts k d .holds ≡ false
+none-at [] k d h e = h
+none-at (t ∷ ts) zero d h e = neither (t .holds) (anyNo ts) e .0
+none-at (t ∷ ts) (suc k) d h e = none-at ts k d h (neither (t .holds) (anyNo ts) e .1)
 
 module _ {R A : Type 0} (refuse : R → A) (a : A) where
   pub first-answers : (ts : List (No R)) (f : First ts) → firstNo refuse ts a ≡ refuse (f .test .why)

@@ -1,0 +1,4 @@
+pub mod SizeLaws
+pub mod CheckLaws
+pub mod AcceptedLaws
+pub mod LocalLaws
