@@ -17,21 +17,17 @@ use Rattle.facts.proofs.ChoiceLaws.{false≢true, both-parts, both-left, not-fa
 use Rattle.facts.proofs.RefusalLaws.{First, none-or-first, first-answers, none-accepts, none-at}
 use Rattle.image.specs.Image.{byteAt, paddedLength, isMulticart}
 use Rattle.image.proofs.ImageLaws.{padded-le}
-use Rattle.types.specs.Types.{beyondOf}
 use Rattle.types.specs.declared.Kind.{Kind}
 use Rattle.types.specs.declared.Kind.the-variants.{NoMapper, Mbc1, Mbc2, Mbc3, Mbc5, Mmm01, Mbc6, Mbc7}
 use Rattle.types.specs.declared.TypeRow.{TypeRow}
 use Rattle.header.specs.Size.{romSize, mends, romFits, ramSizeOf}
 use Rattle.header.specs.Check.{rowOf, foundOf, romLength, banksOf, sizeOf, multicartOf, noes, factsOf, checkOf}
+use Rattle.header.specs.Accepted.{testsOf, ramSizes, Fitting}
 use Rattle.header.specs.declared.HeaderRefusal.{HeaderRefusal}
 use Rattle.header.specs.declared.HeaderRefusal.the-variants.{TooLong}
 use Rattle.header.specs.declared.Facts.{Facts}
 use Rattle.header.specs.declared.Checked.the-variants.{Accept, Refuse}
 use Rattle.header.proofs.SizeLaws.{Power, mends-power}
-
--- the tests of an image
-abbrev pub testsOf : List ℕ → List (No HeaderRefusal)
-testsOf s = noes s (rowOf (foundOf s))
 
 -- ---- a refusal is the first test's that holds, and an accepted image has none
 
@@ -90,10 +86,6 @@ fits-units n c h e = go (either-cases (eqb (romSize c) n) _ e)
     go (inl f) = record { log = c; is = sym (eqb-true (romSize c) n f) }
     go (inr f) = mended f
 
--- the six RAM sizes
-abbrev pub ramSizes : List ℕ
-ramSizes = 0 ∷ 0x800 ∷ 0x2000 ∷ 0x8000 ∷ 0x10000 ∷ 0x20000 ∷ []
-
 size-listed : (n : ℕ) → oneOf (ramSizeOf n) ramSizes ≡ true
 size-listed n =
     let P : ℕ → Type 0 = λ x. oneOf x ramSizes ≡ true in
@@ -114,16 +106,6 @@ multi-length s Mmm01 e = false≢true e
 multi-length s Mbc6 e = false≢true e
 multi-length s Mbc7 e = false≢true e
 
--- the verdict's promise of its facts
-pub record Fitting (s : List ℕ) (d : Facts) : Type 0 where
-  pub short : length s ≤ 8388608
-  pub padded : paddedLength (length s) ≡ d .banks * 0x4000
-  pub log : ℕ
-  pub power : d .banks ≡ 2 * 2 ^ log
-  pub limit : beyondOf (d .kind) (d .banks) (d .size) ≡ false
-  pub sized : oneOf (d .size) ramSizes ≡ true
-  pub multi : d .multicart ≡ true → d .banks ≡ 64
-
 facts-fit : (s : List ℕ) → anyNo (testsOf s) ≡ false → Fitting s (factsOf s (rowOf (foundOf s)))
 unfolding noes factsOf
 facts-fit s n =
@@ -137,6 +119,7 @@ facts-fit s n =
       padded = omega (arith, u .is);
       log = u .log;
       power = omega (arith, u .is);
+      supported = not-false _ (none-at (testsOf s) 9 none refl n);
       limit = none-at (testsOf s) 10 none refl n;
       sized = size-listed (byteAt s 0x149);
       multi = λ m. let l = multi-length s (rowOf (foundOf s) .1) m in omega arith;

@@ -15,18 +15,8 @@ use Rattle.types.specs.Types.{typeOf}
 use Rattle.types.specs.declared.Kind.{Kind}
 use Rattle.types.specs.declared.Kind.the-variants.{NoMapper, Mbc1, Mbc2, Mbc3, Mbc5, Mmm01, Mbc6, Mbc7}
 use Rattle.types.specs.declared.Found.{Found}
+use Rattle.header.specs.Accepted.{Agree}
 use Rattle.header.specs.Check.{rowOf, foundOf, multicartOf, noes, factsOf, checkOf}
-
--- the three logos of the other quarters
-pub record SameLogos (s t : List ℕ) : Type 0 where
-  pub second : logoAt s 0x40104 ≡ logoAt t 0x40104
-  pub third : logoAt s 0x80104 ≡ logoAt t 0x80104
-  pub fourth : logoAt s 0xC0104 ≡ logoAt t 0xC0104
-
-pub record Agree (s t : List ℕ) : Type 0 where
-  pub long : length s ≡ length t
-  pub header : (i : ℕ) → i < 0x14E → byteAt s i ≡ byteAt t i
-  pub quarters : rowOf (foundOf s) .1 ≡ Mbc1 → paddedLength (length s) ≡ 0x100000 → SameLogos s t
 
 module _ (s t : List ℕ) (a : Agree s t) where
   stands : (l : List ℕ) (p : ℕ) → p + length l ≤ 0x14E → standsAt l s p ≡ standsAt l t p

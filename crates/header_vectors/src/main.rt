@@ -69,15 +69,6 @@ fn every_type(image: &mut [u8], title: &[u8]) {
     }
 }
 
-// Each RAM code on a type with RAM, and code 6.
-fn every_ram_code(image: &mut [u8], title: &[u8]) {
-    let mut r: u32 = 0;
-    while r < 7 {
-        made(image, title, 0x03_00_00 + r);
-        r += 1;
-    }
-}
-
 fn cut(image: &[u8], n: usize) {
     if n <= image.len() {
         let start: usize = 0;
@@ -108,7 +99,6 @@ fn zeros(image: &mut [u8; 0x8000]) {
     build::header(image, b"ts", 0);
     every_cut(image);
     titles(image);
-    every_ram_code(image, b"RAM");
 }
 
 // The next test passes with each.
@@ -146,8 +136,8 @@ fn sized(image: &mut [u8], c: u64) {
 }
 
 // 256 banks: equal, mended by 128, by 64, named too large, beyond MBC1 and MBC2; 128 banks and a byte more; six banks; four
-// without a mapper; 16 on MBC2; and three banks.
-const SIZES: [u64; 12] = [
+// without a mapper; 16 on MBC2; three banks; and each RAM code on a type with RAM, and code 6.
+const SIZES: [u64; 19] = [
     0x400000_19_07_00,
     0x400000_19_00_00,
     0x400000_19_01_00,
@@ -160,11 +150,18 @@ const SIZES: [u64; 12] = [
     0x10000_00_01_00,
     0x40000_06_03_00,
     0x8001_13_00_00,
+    0x8000_03_00_00,
+    0x8000_03_00_01,
+    0x8000_03_00_02,
+    0x8000_03_00_03,
+    0x8000_03_00_04,
+    0x8000_03_00_05,
+    0x8000_03_00_06,
 ];
 
 fn every_size(image: &mut [u8]) {
     let mut i: usize = 0;
-    while i < 12 {
+    while i < 19 {
         sized(image, SIZES[i]);
         i += 1;
     }
@@ -194,13 +191,6 @@ fn quarters(image: &mut [u8; 0x100000]) {
     sized(image, 0xFC000_01_05_00);
 }
 
-fn small_images() {
-    let mut image = [0u8; 0x8000];
-    zeros(&mut image);
-    let mut other = [0xFFu8; 0x8000];
-    ones(&mut other);
-}
-
 fn large_zeros() -> [u8; 0x400000] {
     [0; 0x400000]
 }
@@ -217,6 +207,9 @@ fn large_images() {
 }
 
 fn main() {
-    small_images();
+    let mut image = [0u8; 0x8000];
+    zeros(&mut image);
+    let mut other = [0xFFu8; 0x8000];
+    ones(&mut other);
     large_images();
 }

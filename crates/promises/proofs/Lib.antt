@@ -1,5 +1,5 @@
 pub mod TimeLaws
 pub mod Demand3
-pub mod PaddedLaws
+pub mod ImageLaws
 pub mod Verdict
 pub mod Bench

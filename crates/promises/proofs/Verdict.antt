@@ -17,6 +17,7 @@ use Rattle.utf8.proofs.Grammar.{takes, has}
 use Rattle.image.specs.Image.{byteAt, paddedLength, sumFrom, checksumOf, titleOf}
 use Rattle.header.specs.Size.{mends, romFits}
 use Rattle.header.specs.Check.{numberOf, rowOf, foundOf, noes, factsOf, checkOf}
+use Rattle.header.specs.Accepted.{testsOf, Fitting, Agree}
 use Rattle.header.specs.declared.HeaderRefusal.{HeaderRefusal}
 use Rattle.header.specs.declared.HeaderRefusal.the-variants.{TooLong}
 use Rattle.header.specs.declared.Facts.{Facts}
@@ -24,10 +25,11 @@ use Rattle.header.specs.declared.Checked.{Checked}
 use Rattle.header.specs.declared.Checked.the-variants.{Accept, Refuse}
 use Rattle.header.proofs.CheckLaws.{no-1}
 use Rattle.header.proofs.SizeLaws.{Power, mends-power, power-mends}
-use Rattle.header.proofs.AcceptedLaws.{testsOf, refused-by, refused-only, accepted-if, accepted-only, Fitting, accepted-fits}
-use Rattle.header.proofs.LocalLaws.{Agree, same-verdict}
+use Rattle.header.proofs.AcceptedLaws.{refused-by, refused-only, accepted-if, accepted-only, accepted-fits}
+use Rattle.header.proofs.LocalLaws.{same-verdict}
 use Rattle.promises.specs.Padded.{padded}
-use Rattle.promises.proofs.PaddedLaws as padding
+use Rattle.promises.specs.Limits.{Within}
+use Rattle.promises.proofs.ImageLaws as image
 
 -- 1. Number k is given exactly where its test holds and no earlier one does: the tests stand in the order of their numbers,
 pub numbers-in-order : (s : List ℕ)
@@ -72,16 +74,21 @@ powers-mend = power-mends
 
 -- The image read as padded is the padded image.
 pub padded-length : (s : List ℕ) → length (padded s) ≡ paddedLength (length s)
-padded-length = padding.padded-length
+padded-length = image.padded-length
 
 pub padded-byte : (s : List ℕ) (i : ℕ) → getD (padded s) i 0 ≡ byteAt s i
-padded-byte = padding.padded-byte
+padded-byte = image.padded-byte
 
 -- The checksum makes the sum of the 25 bytes, their count and itself a multiple of 256.
 pub checksum-whole : (s : List ℕ) → (checksumOf s + (sumFrom s 0x134 25 + 25)) % 256 ≡ 0
-checksum-whole = padding.checksum-whole
+checksum-whole = image.checksum-whole
 
--- 2. Accepted facts are within their mapper's limits: see `Fitting`.
+-- 2. Accepted facts are within their mapper's limits,
+pub accepted-within : (s : List ℕ) (d : Facts) → checkOf s ≡ Accept d → Within (d .kind) (d .banks) (d .size)
+accepted-within s d e =
+    let f = accepted-fits s d e in image.within (d .kind) (d .banks) (d .size) (f .supported) (f .limit)
+
+-- and the bank count is a power of two from 2 on, the padded length that many banks, a multicart's 64, the RAM size one of six.
 pub accepted-is-fitting : (s : List ℕ) (d : Facts) → checkOf s ≡ Accept d → Fitting s d
 accepted-is-fitting = accepted-fits
 

@@ -8,10 +8,10 @@ use native.Mathlib.Omega.{arith}
 use lib.ListN.{length}
 
 abbrev Inv-loop : tie.InvT-loop
-Inv-loop image₀ i₀ image i = (i ≤ 12) × (length image ≡ length image₀)
+Inv-loop image₀ i₀ image i = (i ≤ 19) × (length image ≡ length image₀)
 
 abbrev μ-loop : tie.MeasureT-loop
-μ-loop image₀ i₀ image i = 12 - i
+μ-loop image₀ i₀ image i = 19 - i
 
 loop-holds : tie.Need-loop-holds Inv-loop μ-loop
 loop-holds c = (omega arith, search needs)
