@@ -28,6 +28,10 @@ both-right a b e = both-parts a b e .1
 pub both-true : {a b : Bool} → a ≡ true → b ≡ true → both a b ≡ true
 both-true p q = rw p q
 
+pub both-one : (a : Bool) → both a true ≡ a
+both-one true = refl
+both-one false = refl
+
 pub both-false : (a : Bool) → both a false ≡ false
 both-false true = refl
 both-false false = refl
@@ -52,6 +56,10 @@ pub either-cases : (a b : Bool) → either a b ≡ true → (a ≡ true) ⊎ (b 
 either-cases true b e = inl refl
 either-cases false b e = inr e
 
+pub either-map : (a : Bool) {b d : Bool} → (b ≡ true → d ≡ true) → either a b ≡ true → either a d ≡ true
+either-map true f e = refl
+either-map false f e = f e
+
 pub neither : (a b : Bool) → either a b ≡ false → (a ≡ false) × (b ≡ false)
 neither true b e = false≢true (sym e)
 neither false b e = (refl, e)
@@ -64,6 +72,11 @@ bit-lt false = omega arith
 pub pick-has : {A : Type 0} (P : A → Type 0) (t : Bool) {a b : A} → P a → P b → P (pick t a b)
 pick-has P true p q = p
 pick-has P false p q = q
+
+-- the same where each side may use what the test says
+pub pick-cases : {A : Type 0} (P : A → Type 0) (t : Bool) {a b : A} → (t ≡ true → P a) → (t ≡ false → P b) → P (pick t a b)
+pick-cases P true p q = p refl
+pick-cases P false p q = q refl
 
 -- two tests for equality that hold together are one
 pub eqb-iff : (a b c d : ℕ) → (a ≡ b → c ≡ d) → (c ≡ d → a ≡ b) → eqb a b ≡ eqb c d

@@ -1,0 +1,78 @@
+-- What the tests of the code say of the definitions: the selection's nibble, the clock in the window, fitness.
+-- Assumes nothing.
+use mathlib.Core.Bool.{Bool, true, false, not}
+use mathlib.Core.Path.{_≡_, refl, sym, ap, _∙_}
+use Prim.Native.Nat.{ℕ, _%_, _<_, _≤_}
+use native.Mathlib.Omega.{arith}
+use lib.Bits.{bitAnd, and-mask}
+use lib.Dec.{leb}
+use borrow.Author.Tests.{le-leb, lt-leb}
+use Rattle.facts.specs.Choice.{pick, both, either}
+use Rattle.facts.proofs.ChoiceLaws.{both-true, both-false}
+use Rattle.clock.specs.Access.{shownOf, writtenOf}
+use Rattle.clock.specs.Fit.{fitClock}
+use Rattle.clock.specs.declared.Shown.{Shown}
+use Rattle.clock.specs.declared.Written.{Written}
+use Rattle.mbc3.specs.Registers.{forRam, forClock, fitRegisters}
+use Rattle.mbc3.specs.ClockWindow.{onClock, byteOr, windowRead, clockOr, windowWritten}
+use Rattle.mbc3.specs.declared.Mbc3.{Mbc3}
+
+-- ---- the selection's nibble
+
+pub for-ram : (byte : ℕ) → bitAnd byte 15 < 4 → forRam byte ≡ true
+for-ram byte h = le-leb (byte % 16) 3 (omega (arith, and-mask byte 4))
+
+pub not-for-ram : (byte : ℕ) → 4 ≤ bitAnd byte 15 → forRam byte ≡ false
+not-for-ram byte h = lt-leb (byte % 16) 3 (omega (arith, and-mask byte 4))
+
+pub for-clock : (byte : ℕ) → 8 ≤ bitAnd byte 15 → bitAnd byte 15 < 13 → forClock byte ≡ true
+for-clock byte l h =
+    both-true (le-leb 8 (byte % 16) (omega (arith, and-mask byte 4))) (le-leb (byte % 16) 12 (omega (arith, and-mask byte 4)))
+
+pub below-clock : (byte : ℕ) → bitAnd byte 15 < 8 → forClock byte ≡ false
+below-clock byte h =
+    ap (λ (t : Bool). both t (leb (byte % 16) 12)) (lt-leb 8 (byte % 16) (omega (arith, and-mask byte 4)))
+
+pub above-clock : (byte : ℕ) → 13 ≤ bitAnd byte 15 → forClock byte ≡ false
+above-clock byte h =
+    ap (both (leb 8 (byte % 16))) (lt-leb (byte % 16) 12 (omega (arith, and-mask byte 4))) ∙ both-false (leb 8 (byte % 16))
+
+-- ---- the clock in the window
+
+pub on-tested : (m : Mbc3) {t u : Bool} → t ≡ both (m .timer) u → u ≡ both (m .enabled) (not (m .memory)) → t ≡ onClock m
+on-tested m p q = p ∙ ap (both (m .timer)) q
+
+pub read-on : (m : Mbc3) (s : Shown) → onClock m ≡ true → shownOf (m .clock) (m .register) ≡ s → byteOr s ≡ windowRead m
+unfolding windowRead
+read-on m s on e =
+    sym (ap (λ (t : Bool). pick t (byteOr (shownOf (m .clock) (m .register))) 0xFF) on ∙ ap byteOr e)
+
+pub read-off : (m : Mbc3) → onClock m ≡ false → 0xFF ≡ windowRead m
+unfolding windowRead
+read-off m off = sym (ap (λ (t : Bool). pick t (byteOr (shownOf (m .clock) (m .register))) 0xFF) off)
+
+pub write-on : (m : Mbc3) (byte : ℕ) (w : Written) → onClock m ≡ true → writtenOf (m .clock) (m .register) byte ≡ w
+    → clockOr m w ≡ windowWritten m byte
+unfolding windowWritten
+write-on m byte w on e =
+    sym (ap (λ (t : Bool). pick t (clockOr m (writtenOf (m .clock) (m .register) byte)) m) on ∙ ap (clockOr m) e)
+
+pub write-off : (m : Mbc3) (byte : ℕ) → onClock m ≡ false → m ≡ windowWritten m byte
+unfolding windowWritten
+write-off m byte off = sym (ap (λ (t : Bool). pick t (clockOr m (writtenOf (m .clock) (m .register) byte)) m) off)
+
+-- ---- fitness, as the code tests it: eight bits are at most 255
+
+banks-tested : (a d : Bool) (n : ℕ) → n < 256 → both a d ≡ both (both a (leb n 255)) d
+banks-tested true d n h = ap (λ (t : Bool). both t d) (sym (le-leb n 255 (omega arith)))
+banks-tested false d n h = refl
+
+joined : {a b d x y z : Bool} → a ≡ x → b ≡ y → d ≡ z → both a (either (not b) d) ≡ both x (either (not y) z)
+joined p q r = rw (p, q, r)
+
+pub fit-tested : (m : Mbc3) (b : Bool) {r x y : Bool} → m .bank < 256 → m .timer ≡ b
+    → x ≡ both (leb 1 (m .bank)) (leb (m .ram) 3) → y ≡ both (leb (m .register) 4) (fitClock (m .clock))
+    → r ≡ both x (either (not b) y) → r ≡ fitRegisters m
+unfolding fitRegisters
+fit-tested m b l q p s e =
+    e ∙ joined (p ∙ banks-tested (leb 1 (m .bank)) (leb (m .ram) 3) (m .bank) l) (sym q) s

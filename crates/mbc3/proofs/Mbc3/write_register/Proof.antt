@@ -1,0 +1,49 @@
+-- `mbc3::Mbc3::write_register` meets its contract: by the address range. Assumes nothing.
+use borrow.Author.Needs.{needs}
+use Rattle.mbc3.proofs.Mbc3.write_register.Statement.{statement}
+use Rattle.mbc3.proofs.Mbc3.write_register.Tie as tie
+use lib.Bits.{and-mask}
+use borrow.Author.Tests.{lt-ltb, le-ltb}
+use Rattle.mbc3.specs.Registers.{written}
+
+or-one-requires : tie.Need-or-one-requires
+or-one-requires c κs = search needs
+
+select-requires : tie.Need-select-requires
+select-requires c κs = search needs
+
+latch-requires : tie.Need-latch-requires
+latch-requires c κs = search needs
+
+returns : tie.Need-returns
+unfolding written
+returns c = simp (lt-ltb _ _ (c .before .if1 .taken), and-mask (c .before .before .args .byte) 4)
+
+returns-2 : tie.Need-returns-2
+unfolding written
+returns-2 c = simp (le-ltb _ _ (c .before .before .before .if1 .left), lt-ltb _ _ (c .before .before .if2 .taken), c .before .or-one .ensures)
+
+returns-3 : tie.Need-returns-3
+unfolding written
+returns-3 c = simp (le-ltb _ _ (c .before .before .before .if1 .left), le-ltb _ _ (c .before .before .if2 .left), lt-ltb _ _ (c .before .if3 .taken), c .select .ensures)
+
+returns-4 : tie.Need-returns-4
+unfolding written
+returns-4 c = simp (le-ltb _ _ (c .before .before .before .before .if1 .left), le-ltb _ _ (c .before .before .before .if2 .left), le-ltb _ _ (c .before .before .if3 .left), lt-ltb _ _ (c .before .if4 .taken), c .latch .ensures)
+
+returns-5 : tie.Need-returns-5
+unfolding written
+returns-5 c = simp (le-ltb _ _ (c .before .before .before .if1 .left), le-ltb _ _ (c .before .before .if2 .left), le-ltb _ _ (c .before .if3 .left), le-ltb _ _ (c .if4 .left))
+
+pub write-register-spec : {M : Type 1} → statement M
+write-register-spec =
+    tie.close
+    (tie.spec
+    or-one-requires
+    select-requires
+    latch-requires
+    returns
+    returns-2
+    returns-3
+    returns-4
+    returns-5)
