@@ -4,21 +4,21 @@ use mathlib.Core.Bool.{Bool, true, false}
 use mathlib.Core.Path.{_≡_, refl}
 use Prim.Native.Nat.{ℕ, _*_, _/_, _%_, _<_, _≤_}
 use native.Mathlib.Omega.{arith}
-use lib.Dec.{eqb, ltb, leb}
+use lib.Dec.{eqb, ltb}
 use borrow.Author.Tests.{eqb-true, eqb-false, ltb-false, le-leb}
-use Rattle.facts.specs.Choice.{pick, both}
+use Rattle.facts.specs.Choice.{pick}
 use Rattle.facts.proofs.ChoiceLaws.{both-true}
 use Rattle.facts.specs.Banking.{placeOf}
 use Rattle.facts.proofs.BankingLaws.{place-lt}
-use Rattle.banking.specs.Banks.{orOne, romPlace, ramPlace, bankedPlace, Inside}
+use Rattle.banking.specs.Banks.{orOne, fromOne, romPlace, ramPlace, bankedPlace, Inside}
 use Rattle.banking.specs.declared.RamAt.{RamAt}
 use Rattle.banking.specs.declared.RamAt.the-variants.{At, NotMapped}
 
-pub or-one-within : (last n : ℕ) → 1 ≤ last → n ≤ last → both (leb 1 (orOne n)) (leb (orOne n) last) ≡ true
+pub or-one-within : (last n : ℕ) → 1 ≤ last → n ≤ last → fromOne last (orOne n) ≡ true
 unfolding orOne
 or-one-within last n one h = go (eqb n 0) refl
   where
-    go : (t : Bool) → eqb n 0 ≡ t → both (leb 1 (pick t 1 n)) (leb (pick t 1 n) last) ≡ true
+    go : (t : Bool) → eqb n 0 ≡ t → fromOne last (pick t 1 n) ≡ true
     go true e = le-leb 1 last one
     go false e = let z = eqb-false n 0 e in both-true (le-leb 1 n (omega (arith, z))) (le-leb n last h)
 

@@ -1,8 +1,8 @@
 -- Where an address falls, by a bank taken modulo the number of banks (document 01, "The bus").
 use mathlib.Core.Bool.{Bool, true, false}
 use Prim.Native.Nat.{ℕ, _/_, _%_, _<_}
-use lib.Dec.{eqb, ltb}
-use Rattle.facts.specs.Choice.{pick}
+use lib.Dec.{eqb, ltb, leb}
+use Rattle.facts.specs.Choice.{pick, both}
 use Rattle.facts.specs.Banking.{placeOf}
 use Rattle.banking.specs.declared.RamAt.{RamAt}
 use Rattle.banking.specs.declared.RamAt.the-variants.{At, NotMapped}
@@ -10,6 +10,10 @@ use Rattle.banking.specs.declared.RamAt.the-variants.{At, NotMapped}
 -- "A zero written to the ROM bank (MBC1: the low register) becomes 1 except on MBC5."
 unfoldable pub orOne : ℕ → ℕ
 orOne n = pick (eqb n 0) 1 n
+
+-- what is not "outside 1..31", "1..15" and "1..255"
+abbrev pub fromOne : ℕ → ℕ → Bool
+fromOne last n = both (leb 1 n) (leb n last)
 
 -- "Every bank number is taken modulo the bank count": 16 KiB to a ROM bank
 abbrev pub romPlace : ℕ → ℕ → ℕ → ℕ

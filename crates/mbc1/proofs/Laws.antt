@@ -9,7 +9,7 @@ use borrow.Author.Tests.{leb-true, le-leb}
 use Rattle.facts.specs.Choice.{pick, both}
 use Rattle.facts.proofs.ChoiceLaws.{both-parts, both-true, pick-has}
 use Rattle.facts.proofs.BitLaws.{join-above}
-use Rattle.banking.specs.Banks.{orOne, ramPlace, Inside}
+use Rattle.banking.specs.Banks.{orOne, fromOne, ramPlace, Inside}
 use Rattle.banking.proofs.Laws.{or-one-within, ram-inside, picked-inside}
 use Rattle.mbc1.specs.Registers.{start, lowOf, written, twoAt, bank0, bankX, ramBank, ramAt, fitRegisters}
 use Rattle.mbc1.specs.declared.Mbc1.{Mbc1}
@@ -25,7 +25,7 @@ pub record Fit (m : Mbc1) : Type 0 where
   pub two : m .two < 2 ^ 2
   pub low : m .low < 2 ^ lowBits (m .multicart)
 
-low-bound : (b : Bool) (n : ℕ) → pick b (leb n 15) (both (leb 1 n) (leb n 31)) ≡ true → n < 2 ^ lowBits b
+low-bound : (b : Bool) (n : ℕ) → pick b (leb n 15) (fromOne 31 n) ≡ true → n < 2 ^ lowBits b
 low-bound true n e = let h = leb-true n 15 e in omega arith
 low-bound false n e = let h = leb-true n 31 (both-parts (leb 1 n) (leb n 31) e .1) in omega arith
 
@@ -83,7 +83,7 @@ ram-at-inside m size addr = picked-inside (m .enabled) (ramPlace size (ramBank m
 -- ---- a register write keeps fit registers fit
 
 low-fit : (b : Bool) (byte : ℕ)
-    → pick b (leb (lowOf b byte) 15) (both (leb 1 (lowOf b byte)) (leb (lowOf b byte) 31)) ≡ true
+    → pick b (leb (lowOf b byte) 15) (fromOne 31 (lowOf b byte)) ≡ true
 unfolding lowOf
 low-fit true byte = le-leb (orOne (byte % 32) % 16) 15 (omega arith)
 low-fit false byte = or-one-within 31 (byte % 32) (omega arith) (omega arith)
@@ -105,9 +105,9 @@ start-fit false = refl
 
 -- the fitness test, as the code makes it
 pub fit-tested : (m : Mbc1) (b : Bool) {r x : Bool} → m .multicart ≡ b
-    → x ≡ pick b (leb (m .low) 15) (both (leb 1 (m .low)) (leb (m .low) 31)) → r ≡ both (leb (m .two) 3) x → r ≡ fitRegisters m
+    → x ≡ pick b (leb (m .low) 15) (fromOne 31 (m .low)) → r ≡ both (leb (m .two) 3) x → r ≡ fitRegisters m
 unfolding fitRegisters
 fit-tested m b q p e =
     e
     ∙ ap (both (leb (m .two) 3))
-    (p ∙ ap (λ (t : Bool). pick t (leb (m .low) 15) (both (leb 1 (m .low)) (leb (m .low) 31))) (sym q))
+    (p ∙ ap (λ (t : Bool). pick t (leb (m .low) 15) (fromOne 31 (m .low))) (sym q))

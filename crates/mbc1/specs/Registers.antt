@@ -3,7 +3,7 @@ use mathlib.Core.Bool.{Bool, true, false}
 use Prim.Native.Nat.{ℕ, _+_, _*_, _%_}
 use lib.Dec.{ltb, leb, eqb}
 use Rattle.facts.specs.Choice.{pick, both}
-use Rattle.banking.specs.Banks.{orOne, ramPlace}
+use Rattle.banking.specs.Banks.{orOne, fromOne, ramPlace}
 use Rattle.banking.specs.declared.RamAt.{RamAt}
 use Rattle.banking.specs.declared.RamAt.the-variants.{NotMapped}
 use Rattle.mbc1.specs.declared.Mbc1.{Mbc1}
@@ -48,4 +48,4 @@ ramAt m size addr = pick (m .enabled) (ramPlace size (ramBank m) addr) NotMapped
 
 -- unfit: "MBC1 low register outside 1..31 (multicart 0..15) or two-bit register above 3"
 unfoldable pub fitRegisters : Mbc1 → Bool
-fitRegisters m = both (leb (m .two) 3) (pick (m .multicart) (leb (m .low) 15) (both (leb 1 (m .low)) (leb (m .low) 31)))
+fitRegisters m = both (leb (m .two) 3) (pick (m .multicart) (leb (m .low) 15) (fromOne 31 (m .low)))

@@ -2,10 +2,10 @@
 use mathlib.Core.Bool.{Bool, false}
 use mathlib.Core.List.{List}
 use Prim.Native.Nat.{ℕ, _+_, _/_, _%_}
-use lib.Dec.{ltb, leb, eqb}
+use lib.Dec.{ltb, eqb}
 use lib.ListN.{getD, set}
-use Rattle.facts.specs.Choice.{pick, both}
-use Rattle.banking.specs.Banks.{orOne}
+use Rattle.facts.specs.Choice.{pick}
+use Rattle.banking.specs.Banks.{orOne, fromOne}
 use Rattle.mbc2.specs.declared.Mbc2.{Mbc2}
 
 abbrev pub mbc2 : Bool → ℕ → Mbc2
@@ -22,6 +22,13 @@ written m addr byte =
     (pick (eqb (addr / 256 % 2) 0) (mbc2 (eqb (byte % 16) 0xA) (m .bank)) (mbc2 (m .enabled) (orOne (byte % 16))))
     m
 
+-- the bank at 0x0000..=0x3FFF, which only MBC1 moves, and at 0x4000..=0x7FFF
+abbrev pub bank0 : Mbc2 → ℕ
+bank0 m = 0
+
+abbrev pub bankX : Mbc2 → ℕ
+bankX m = m .bank
+
 -- "Reads give 0xF0 | byte; writes keep the low nibble."
 unfoldable pub halfRead : Mbc2 → List ℕ → ℕ → ℕ
 halfRead m half addr = pick (m .enabled) (0xF0 + getD half (addr % 512) 0 % 16) 0xFF
@@ -31,4 +38,4 @@ halfAfter m half addr byte = pick (m .enabled) (set half (addr % 512) (byte % 16
 
 -- unfit: "MBC2 bank outside 1..15"
 unfoldable pub fitRegisters : Mbc2 → Bool
-fitRegisters m = both (leb 1 (m .bank)) (leb (m .bank) 15)
+fitRegisters m = fromOne 15 (m .bank)

@@ -2,7 +2,7 @@
 // address bit 8.
 ghost use mathlib.Core.Path.{_≡_};
 ghost use lib.ListN.{length};
-ghost use Rattle.mbc2.specs.Registers.{start, written, halfRead, halfAfter, fitRegisters};
+ghost use Rattle.mbc2.specs.Registers.{start, written, bank0, bankX, halfRead, halfAfter, fitRegisters};
 use facts::both;
 
 pub struct Mbc2 {
@@ -42,14 +42,14 @@ impl Mbc2 {
 
     // The bank at 0x0000..=0x3FFF.
     pub fn bank_0(self) -> u16
-        ensures { λ r. ⌜ r ≡ 0 ⌝ }
+        ensures { λ r. ⌜ r ≡ bank0 self ⌝ }
     {
         0
     }
 
     // The bank at 0x4000..=0x7FFF, not yet modulo the bank count.
     pub fn bank_x(self) -> u16
-        ensures { λ r. ⌜ r ≡ self .bank ⌝ }
+        ensures { λ r. ⌜ r ≡ bankX self ⌝ }
     {
         self.bank as u16
     }

@@ -7,7 +7,7 @@ use lib.Dec.{leb, ltb}
 use borrow.Author.Tests.{le-leb, leb-true}
 use Rattle.facts.specs.Choice.{pick, both, either}
 use Rattle.facts.proofs.ChoiceLaws.{both-parts, both-true, both-right, either-map, either-true, pick-has, pick-cases}
-use Rattle.banking.specs.Banks.{bankedPlace, Inside}
+use Rattle.banking.specs.Banks.{fromOne, bankedPlace, Inside}
 use Rattle.banking.proofs.Laws.{or-one-within, banked-inside, picked-inside}
 use Rattle.clock.specs.Access.{latchedOf, writtenOf}
 use Rattle.clock.specs.Fit.{fitClock}
@@ -29,15 +29,15 @@ abbrev timed : Mbc3 → Bool
 timed m = both (leb (m .register) 4) (fitClock (m .clock))
 
 record Fit (m : Mbc3) : Type 0 where
-  bank : both (leb 1 (m .bank)) (leb (m .bank) 255) ≡ true
+  bank : fromOne 255 (m .bank) ≡ true
   ram : leb (m .ram) 3 ≡ true
   clock : either (not (m .timer)) (timed m) ≡ true
 
 parts : (m : Mbc3) → fitRegisters m ≡ true → Fit m
 unfolding fitRegisters
 parts m e =
-    let p = both-parts (both (both (leb 1 (m .bank)) (leb (m .bank) 255)) (leb (m .ram) 3)) _ e in
-    let q = both-parts (both (leb 1 (m .bank)) (leb (m .bank) 255)) (leb (m .ram) 3) (p .0) in
+    let p = both-parts (both (fromOne 255 (m .bank)) (leb (m .ram) 3)) _ e in
+    let q = both-parts (fromOne 255 (m .bank)) (leb (m .ram) 3) (p .0) in
     record { bank = q .0; ram = q .1; clock = p .1 }
 
 -- ---- writes keep them

@@ -3,7 +3,7 @@ use mathlib.Core.Bool.{Bool, true, false, not}
 use Prim.Native.Nat.{ℕ, _-_, _%_}
 use lib.Dec.{ltb, leb, eqb}
 use Rattle.facts.specs.Choice.{pick, both, either}
-use Rattle.banking.specs.Banks.{orOne, bankedPlace}
+use Rattle.banking.specs.Banks.{orOne, fromOne, bankedPlace}
 use Rattle.banking.specs.declared.RamAt.{RamAt}
 use Rattle.banking.specs.declared.RamAt.the-variants.{NotMapped}
 use Rattle.clock.specs.Access.{startAt, latchedOf}
@@ -62,6 +62,13 @@ written m addr byte =
     (mbc3 (m .timer) (m .enabled) (orOne byte) (m .memory) (m .ram) (m .register) (m .clock))
     (pick (ltb addr 0x6000) (selected m byte) (pick (ltb addr 0x8000) (latched m byte) m)))
 
+-- the bank at 0x0000..=0x3FFF, which only MBC1 moves, and at 0x4000..=0x7FFF
+abbrev pub bank0 : Mbc3 → ℕ
+bank0 m = 0
+
+abbrev pub bankX : Mbc3 → ℕ
+bankX m = m .bank
+
 -- "RAM of 0x800 is never mapped."
 unfoldable pub ramAt : Mbc3 → ℕ → ℕ → RamAt
 ramAt m size addr = pick (both (m .enabled) (m .memory)) (bankedPlace size (m .ram) addr) NotMapped
@@ -70,5 +77,5 @@ ramAt m size addr = pick (both (m .enabled) (m .memory)) (bankedPlace size (m .r
 -- .. aren't looked at"
 unfoldable pub fitRegisters : Mbc3 → Bool
 fitRegisters m =
-    both (both (both (leb 1 (m .bank)) (leb (m .bank) 255)) (leb (m .ram) 3))
+    both (both (fromOne 255 (m .bank)) (leb (m .ram) 3))
     (either (not (m .timer)) (both (leb (m .register) 4) (fitClock (m .clock))))

@@ -1,6 +1,6 @@
 // MBC3: up to 256 ROM banks, four RAM banks, and on some boards a clock whose registers stand in the RAM window.
 ghost use mathlib.Core.Path.{_≡_};
-ghost use Rattle.mbc3.specs.Registers.{start, selectable, selected, latched, written, ramAt, fitRegisters};
+ghost use Rattle.mbc3.specs.Registers.{start, selectable, selected, latched, written, bank0, bankX, ramAt, fitRegisters};
 ghost use Rattle.mbc3.specs.ClockWindow.{windowRead, windowWritten};
 use banking::RamAt;
 use clock::Clock;
@@ -100,14 +100,14 @@ impl Mbc3 {
 
     // The bank at 0x0000..=0x3FFF.
     pub fn bank_0(self) -> u16
-        ensures { λ r. ⌜ r ≡ 0 ⌝ }
+        ensures { λ r. ⌜ r ≡ bank0 self ⌝ }
     {
         0
     }
 
     // The bank at 0x4000..=0x7FFF, not yet modulo the bank count.
     pub fn bank_x(self) -> u16
-        ensures { λ r. ⌜ r ≡ self .bank ⌝ }
+        ensures { λ r. ⌜ r ≡ bankX self ⌝ }
     {
         self.bank as u16
     }

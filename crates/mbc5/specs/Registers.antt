@@ -24,6 +24,13 @@ written m addr byte =
     (pick (ltb addr 0x6000) (mbc5 (m .enabled) (m .bank) (byte % 16))
     m)))
 
+-- the bank at 0x0000..=0x3FFF, which only MBC1 moves, and at 0x4000..=0x7FFF
+abbrev pub bank0 : Mbc5 → ℕ
+bank0 m = 0
+
+abbrev pub bankX : Mbc5 → ℕ
+bankX m = m .bank
+
 unfoldable pub ramAt : Mbc5 → ℕ → ℕ → RamAt
 ramAt m size addr = pick (m .enabled) (ramPlace size (m .ram) addr) NotMapped
 

@@ -1,6 +1,6 @@
 // MBC5: up to 512 ROM banks behind a nine-bit register in two parts, and sixteen RAM banks. Bank 0 can be selected.
 ghost use mathlib.Core.Path.{_≡_};
-ghost use Rattle.mbc5.specs.Registers.{start, written, ramAt, fitRegisters};
+ghost use Rattle.mbc5.specs.Registers.{start, written, bank0, bankX, ramAt, fitRegisters};
 use banking::RamAt;
 use facts::both;
 
@@ -50,14 +50,14 @@ impl Mbc5 {
 
     // The bank at 0x0000..=0x3FFF.
     pub fn bank_0(self) -> u16
-        ensures { λ r. ⌜ r ≡ 0 ⌝ }
+        ensures { λ r. ⌜ r ≡ bank0 self ⌝ }
     {
         0
     }
 
     // The bank at 0x4000..=0x7FFF, not yet modulo the bank count.
     pub fn bank_x(self) -> u16
-        ensures { λ r. ⌜ r ≡ self .bank ⌝ }
+        ensures { λ r. ⌜ r ≡ bankX self ⌝ }
     {
         self.bank
     }
