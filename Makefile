@@ -1,8 +1,13 @@
 .PHONY: test kit
 
 # Every crate proved from nothing, every wrong program refused, every program run. The last line is 'N passed, M failed'.
+# A program's arrays stand on the stack, and images of 8 MiB need more than the usual limit. Four provers at a time keep two cores
+# busy: the wrong programs go in rounds that wait for their slowest.
 test: kit
-	@rt ci
+	@ulimit -S -s 65536 2>/dev/null || { \
+	  echo "The stack cannot be raised to 64 MiB: 'ulimit -H -s' says $$(ulimit -H -s) KiB. The program large_vectors needs more than 8192."; \
+	  exit 1; }; \
+	RT_JOBS=$${RT_JOBS:-4} rt ci
 
 kit:
 	@command -v rt >/dev/null 2>&1 || { \

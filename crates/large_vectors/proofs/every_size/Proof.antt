@@ -1,17 +1,17 @@
--- `header_vectors::every_size` meets its contract: it ends, and the image keeps its length. Assumes nothing.
+-- `large_vectors::every_size` meets its contract: it ends, and the image keeps its length. Assumes nothing.
 use borrow.Author.Needs.{needs}
-use Rattle.header_vectors.proofs.every_size.Statement.{statement}
-use Rattle.header_vectors.proofs.every_size.Tie as tie
+use Rattle.large_vectors.proofs.every_size.Statement.{statement}
+use Rattle.large_vectors.proofs.every_size.Tie as tie
 use Prim.Native.Nat.{_-_, _≤_}
 use mathlib.Core.Path.{_≡_}
 use native.Mathlib.Omega.{arith}
 use lib.ListN.{length}
 
 abbrev Inv-loop : tie.InvT-loop
-Inv-loop image₀ i₀ image i = (i ≤ 19) × (length image ≡ length image₀)
+Inv-loop image₀ i₀ image i = (i ≤ 30) × (length image ≡ length image₀)
 
 abbrev μ-loop : tie.MeasureT-loop
-μ-loop image₀ i₀ image i = 19 - i
+μ-loop image₀ i₀ image i = 30 - i
 
 loop-holds : tie.Need-loop-holds Inv-loop μ-loop
 loop-holds c = (omega arith, search needs)

@@ -1,7 +1,7 @@
--- `header_vectors::build::sum` meets its contract: it ends, and no sum is too large. Assumes nothing.
+-- `header_lines::build::sum` meets its contract: it ends, and no sum is too large. Assumes nothing.
 use borrow.Author.Needs.{needs}
-use Rattle.header_vectors.proofs.build.sum.Statement.{statement}
-use Rattle.header_vectors.proofs.build.sum.Tie as tie
+use Rattle.header_lines.proofs.build.sum.Statement.{statement}
+use Rattle.header_lines.proofs.build.sum.Tie as tie
 use Prim.Native.Nat.{_-_, _≤_}
 use native.Mathlib.Omega.{arith}
 

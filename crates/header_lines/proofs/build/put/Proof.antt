@@ -1,7 +1,7 @@
--- `header_vectors::build::put` meets its contract: it ends, and the image keeps its length. Assumes nothing.
+-- `header_lines::build::put` meets its contract: it ends, and the image keeps its length. Assumes nothing.
 use borrow.Author.Needs.{needs}
-use Rattle.header_vectors.proofs.build.put.Statement.{statement}
-use Rattle.header_vectors.proofs.build.put.Tie as tie
+use Rattle.header_lines.proofs.build.put.Statement.{statement}
+use Rattle.header_lines.proofs.build.put.Tie as tie
 use Prim.Native.Nat.{_-_, _≤_}
 use mathlib.Core.Path.{_≡_}
 use native.Mathlib.Omega.{arith}
