@@ -5,7 +5,7 @@
 # busy: the wrong programs go in rounds that wait for their slowest.
 test: kit
 	@ulimit -S -s 65536 2>/dev/null || { \
-	  echo "The stack cannot be raised to 64 MiB: 'ulimit -H -s' says $$(ulimit -H -s) KiB. The program large_vectors needs more than 8192."; \
+	  echo "The stack cannot be raised to 64 MiB: 'ulimit -H -s' says $$(ulimit -H -s) KiB. The programs large_vectors and bus_vectors need more than 8192."; \
 	  exit 1; }; \
 	RT_JOBS=$${RT_JOBS:-4} rt ci
 

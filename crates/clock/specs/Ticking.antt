@@ -50,8 +50,9 @@ abbrev pub numberOf : AdvanceRefusal → ℕ
 numberOf Unfit = 13
 numberOf Late = 17
 
+abbrev pub late : Clock → ℕ → Bool
+late c n = ltb 18446744073709551615 (ticks n c .time)
+
 -- an advance by n: "Advancing: 13, 17", else the clock after n ticks
 unfoldable pub advanceOf : Clock → ℕ → Advanced
-advanceOf c n =
-    firstNo Refuse (no (not (fitClock c)) Unfit ∷ no (ltb 18446744073709551615 (ticks n c .time)) Late ∷ [])
-    (To (ticks n c))
+advanceOf c n = firstNo Refuse (no (not (fitClock c)) Unfit ∷ no (late c n) Late ∷ []) (To (ticks n c))

@@ -1,9 +1,7 @@
 // The clock's bench rows and its corners, run. A line has a clock, the clocks that pass behind a comma, and the clock then:
 // day, hour:minute:second, halt, carry, sub-second and time. A refusal is N and its number. A line ends in `=` where a slow
-// ticker of this program's own came to the same clock step by step, in `#` where it did not, and in `!` where ticking would
+// ticker (slow_clock) came to the same clock step by step, in `#` where it did not, and in `!` where ticking would
 // take years or the answer is a refusal: there a comment says why it is right.
-mod ticker;
-
 use clock::Advanced;
 use clock::Clock;
 use clock::Shown;
@@ -110,14 +108,14 @@ fn from(running: Registers, sub: u32, time: u64) -> Clock {
 fn clocks(second: u8, sub: u32, time: u64, n: u64) {
     let c = from(at(7, 3, 12, second), sub, time);
     let d = advanced(c, n);
-    verdict(ticker::same(ticker::ticks(c, n), d));
+    verdict(slow_clock::same(slow_clock::ticks(c, n), d));
 }
 
 // n seconds, and as many slow seconds.
 fn seconds(r: Registers, n: u32) {
     let c = from(r, 5, 0);
     let d = advanced(c, n as u64 * 2_097_152);
-    verdict(ticker::same(ticker::seconds(c, n as u64), d));
+    verdict(slow_clock::same(slow_clock::seconds(c, n as u64), d));
 }
 
 fn by_hand(c: Clock, n: u64) {

@@ -3,10 +3,11 @@ use mathlib.Core.Bool.{Bool, true, false}
 use mathlib.Core.List.{List, [], _∷_, _++_, append-nil}
 use mathlib.Core.Logic.{_⊎_, inl, inr}
 use mathlib.Core.Path.{_≡_, refl, sym, ap, _∙_}
-use Prim.Native.Nat.{ℕ, _-_, _≤_}
+use Prim.Native.Nat.{ℕ, zero, suc, _+_, _-_, _≤_}
+use native.Mathlib.Nat.{zero-add, suc-add}
 use native.Mathlib.Omega.{arith}
 use lib.Dec.{leb, eqb}
-use lib.ListN.{length, take, drop, length-drop, drop-of-length-le}
+use lib.ListN.{length, set, take, drop, length-drop, drop-of-length-le}
 use lib.Seq.{take-all}
 use borrow.Author.Tests.{eq-eqb, ne-eqb, eqb-true, leb-true}
 use borrow.Rule.Slice.PartMut.{putMid}
@@ -55,3 +56,10 @@ part-back k xs ys =
     let none : drop (length xs - k) (drop k xs) ≡ [] =
     drop-of-length-le (drop k xs) {i = length xs - k} (omega (arith, length-drop k xs)) in
     simp (none, append-nil)
+
+-- an element of that part set, and the whole put together again
+pub part-set : (k : ℕ) (xs : List ℕ) (j v : ℕ) → take k xs ++ set (drop k xs) j v ≡ set xs (k + j) v
+part-set zero xs j v = ap (λ (i : ℕ). set xs i v) (sym (zero-add j))
+part-set (suc k) [] j v = refl
+part-set (suc k) (x ∷ xs) j v =
+    ap (λ (l : List ℕ). x ∷ l) (part-set k xs j v) ∙ ap (λ (i : ℕ). set (x ∷ xs) i v) (sym (suc-add k j))

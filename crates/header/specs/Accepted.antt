@@ -1,6 +1,6 @@
 -- What the theorems on the verdict speak of: the tests of an image, what an accepted one is, and where two agree.
 use mathlib.Core.Bool.{true, false}
-use mathlib.Core.List.{List, [], _∷_}
+use mathlib.Core.List.{List}
 use mathlib.Core.Path.{_≡_}
 use Prim.Native.Nat.{ℕ, _*_, _^_, _<_, _≤_}
 use lib.ListN.{length}
@@ -9,6 +9,7 @@ use Rattle.facts.specs.Listed.{oneOf}
 use Rattle.image.specs.Image.{byteAt, paddedLength, logoAt}
 use Rattle.types.specs.Types.{supportedOf, beyondOf}
 use Rattle.types.specs.declared.Kind.the-variants.{Mbc1}
+use Rattle.header.specs.Size.{ramSizes}
 use Rattle.header.specs.Check.{rowOf, foundOf, noes}
 use Rattle.header.specs.declared.HeaderRefusal.{HeaderRefusal}
 use Rattle.header.specs.declared.Facts.{Facts}
@@ -16,10 +17,6 @@ use Rattle.header.specs.declared.Facts.{Facts}
 -- the tests of an image
 abbrev pub testsOf : List ℕ → List (No HeaderRefusal)
 testsOf s = noes s (rowOf (foundOf s))
-
--- the six RAM sizes
-abbrev pub ramSizes : List ℕ
-ramSizes = 0 ∷ 0x800 ∷ 0x2000 ∷ 0x8000 ∷ 0x10000 ∷ 0x20000 ∷ []
 
 -- an accepted image: short enough, padded to a power of two of banks, within its mapper, of a listed RAM size
 pub record Fitting (s : List ℕ) (d : Facts) : Type 0 where

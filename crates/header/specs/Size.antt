@@ -1,9 +1,11 @@
 -- The ROM size and its mending, and the RAM sizes (document 01, "The header").
 use mathlib.Core.Bool.{Bool}
+use mathlib.Core.List.{List, [], _∷_}
 use Prim.Native.Nat.{ℕ, _*_, _/_, _%_, _^_}
 use lib.Dec.{eqb, ltb, leb}
 use lib.Count.{ones, trailingZeros}
-use Rattle.facts.specs.Choice.{pick, both, either}
+use lib.ListN.{getD}
+use Rattle.facts.specs.Choice.{both, either}
 
 -- "ROM size is 0x8000 << n."
 abbrev pub romSize : ℕ → ℕ
@@ -20,11 +22,8 @@ romFits len n =
     (both (ltb (romSize n) len) (both (eqb (len % romSize n) 0) (mends (len / romSize n))))
 
 -- "RAM sizes for 0 to 5: 0, 0x800, 0x2000, 0x8000, 0x20000, 0x10000."
+abbrev pub ramSizes : List ℕ
+ramSizes = 0 ∷ 0x800 ∷ 0x2000 ∷ 0x8000 ∷ 0x20000 ∷ 0x10000 ∷ []
+
 abbrev pub ramSizeOf : ℕ → ℕ
-ramSizeOf n =
-    pick (eqb n 0) 0
-    (pick (eqb n 1) 0x800
-    (pick (eqb n 2) 0x2000
-    (pick (eqb n 3) 0x8000
-    (pick (eqb n 4) 0x20000
-    0x10000))))
+ramSizeOf n = getD ramSizes n 0

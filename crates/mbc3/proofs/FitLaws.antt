@@ -1,21 +1,19 @@
--- Mapped RAM is within the area, and register writes, clock writes and the start give fit registers. Assumes nothing.
-use mathlib.Core.Bool.{Bool, true, false, not}
-use mathlib.Core.Path.{_≡_, refl, sym, ap, _∙_}
-use Prim.Native.Nat.{ℕ, _-_, _%_, _<_, _≤_}
+-- Mapped RAM is within the area, and register writes, another fit clock and the start give fit registers. Assumes nothing.
+use mathlib.Core.Bool.{Bool, true, not}
+use mathlib.Core.Path.{_≡_, ap, _∙_}
+use Prim.Native.Nat.{ℕ, _-_, _%_, _<_}
 use native.Mathlib.Omega.{arith}
 use lib.Dec.{leb, ltb}
 use borrow.Author.Tests.{le-leb, leb-true}
-use Rattle.facts.specs.Choice.{pick, both, either}
+use Rattle.facts.specs.Choice.{both, either}
 use Rattle.facts.proofs.ChoiceLaws.{both-parts, both-true, both-right, either-map, either-true, pick-has, pick-cases}
 use Rattle.banking.specs.Banks.{fromOne, bankedPlace, Inside}
 use Rattle.banking.proofs.Laws.{or-one-within, banked-inside, picked-inside}
-use Rattle.clock.specs.Access.{latchedOf, writtenOf}
+use Rattle.clock.specs.Access.{latchedOf}
 use Rattle.clock.specs.Fit.{fitClock}
 use Rattle.clock.proofs.KeptLaws as kept
-use Rattle.clock.specs.declared.Written.{Written}
-use Rattle.clock.specs.declared.Written.the-variants as answer
-use Rattle.mbc3.specs.Registers.{start, forRam, forClock, selected, latched, written, ramAt, fitRegisters}
-use Rattle.mbc3.specs.ClockWindow.{onClock, clockOr, windowWritten}
+use Rattle.clock.specs.declared.Clock.{Clock}
+use Rattle.mbc3.specs.Registers.{start, forRam, forClock, selected, withClock, latched, written, ramAt, fitRegisters}
 use Rattle.mbc3.specs.declared.Mbc3.{Mbc3}
 
 pub ram-at-inside : (m : Mbc3) (size addr : ℕ) → Inside (ramAt m size addr) size
@@ -56,17 +54,21 @@ select-fit m byte fit =
         let h = leb-true (byte % 16) 12 (both-right (leb 8 (byte % 16)) _ t) in
         both-true (le-leb (byte % 16 - 8) 4 (omega arith)) (both-right (leb (m .register) 4) _ e)
 
-latch-fit : (m : Mbc3) (byte : ℕ) → fitRegisters m ≡ true → fitRegisters (latched m byte) ≡ true
-unfolding latched fitRegisters
-latch-fit m byte fit =
-    let P : Mbc3 → Type 0 = λ x. fitRegisters x ≡ true in
-    let f = parts m fit in
-    pick-has P (m .timer) (both-true (both-true (f .bank) (f .ram)) (either-map (not (m .timer)) frozen (f .clock))) fit
+-- a clock that is fit where the old one was
+pub clock-fit : (m : Mbc3) (c : Clock) → fitRegisters m ≡ true → (fitClock (m .clock) ≡ true → fitClock c ≡ true)
+    → fitRegisters (withClock m c) ≡ true
+unfolding fitRegisters
+clock-fit m c fit kept =
+    let f = parts m fit in both-true (both-true (f .bank) (f .ram)) (either-map (not (m .timer)) next (f .clock))
   where
-    frozen : timed m ≡ true → both (leb (m .register) 4) (fitClock (latchedOf (m .clock) byte)) ≡ true
-    frozen e =
-        let p = both-parts (leb (m .register) 4) (fitClock (m .clock)) e in
-        both-true (p .0) (kept.latch-fit (m .clock) byte (p .1))
+    next : timed m ≡ true → both (leb (m .register) 4) (fitClock c) ≡ true
+    next e = let p = both-parts (leb (m .register) 4) (fitClock (m .clock)) e in both-true (p .0) (kept (p .1))
+
+latch-fit : (m : Mbc3) (byte : ℕ) → fitRegisters m ≡ true → fitRegisters (latched m byte) ≡ true
+unfolding latched
+latch-fit m byte fit =
+    pick-has (λ (x : Mbc3). fitRegisters x ≡ true) (m .timer)
+    (clock-fit m (latchedOf (m .clock) byte) fit (kept.latch-fit (m .clock) byte)) fit
 
 pub write-fit : (m : Mbc3) (addr byte : ℕ) → byte < 256 → fitRegisters m ≡ true → fitRegisters (written m addr byte) ≡ true
 unfolding written fitRegisters
@@ -76,23 +78,6 @@ write-fit m addr byte l fit =
     pick-has P (ltb addr 0x2000) fit
     (pick-has P (ltb addr 0x4000) (both-true (both-true (or-one-within 255 byte (omega arith) (omega arith)) (f .ram)) (f .clock))
     (pick-has P (ltb addr 0x6000) (select-fit m byte fit) (pick-has P (ltb addr 0x8000) (latch-fit m byte fit) fit)))
-
-pub clock-write-fit : (m : Mbc3) (byte : ℕ) → byte < 256 → fitRegisters m ≡ true → fitRegisters (windowWritten m byte) ≡ true
-unfolding windowWritten fitRegisters
-clock-write-fit m byte l fit =
-    let P : Mbc3 → Type 0 = λ x. fitRegisters x ≡ true in
-    pick-has P (onClock m) (given (writtenOf (m .clock) (m .register) byte) refl) fit
-  where
-    given : (w : Written) → writtenOf (m .clock) (m .register) byte ≡ w → fitRegisters (clockOr m w) ≡ true
-    given (answer.To d) e =
-        let f = parts m fit in
-        both-true (both-true (f .bank) (f .ram)) (either-map (not (m .timer)) next (f .clock))
-      where
-        next : timed m ≡ true → both (leb (m .register) 4) (fitClock d) ≡ true
-        next t =
-            let p = both-parts (leb (m .register) 4) (fitClock (m .clock)) t in
-            both-true (p .0) (kept.write-fit (m .clock) d (m .register) byte (p .1) l e)
-    given answer.NoRegister e = fit
 
 pub start-fit : (timer : Bool) (wall : ℕ) → fitRegisters (start timer wall) ≡ true
 unfolding fitRegisters

@@ -1,4 +1,4 @@
--- What the tests of the code say of the definitions: the selection's nibble, the clock in the window, fitness.
+-- What the tests of the code say of the definitions: the selection's nibble, fitness.
 -- Assumes nothing.
 use mathlib.Core.Bool.{Bool, true, false, not}
 use mathlib.Core.Path.{_≡_, refl, sym, ap, _∙_}
@@ -7,14 +7,10 @@ use native.Mathlib.Omega.{arith}
 use lib.Bits.{bitAnd, and-mask}
 use lib.Dec.{leb}
 use borrow.Author.Tests.{le-leb, lt-leb}
-use Rattle.facts.specs.Choice.{pick, both, either}
+use Rattle.facts.specs.Choice.{both, either}
 use Rattle.facts.proofs.ChoiceLaws.{both-true, both-false}
-use Rattle.clock.specs.Access.{shownOf, writtenOf}
 use Rattle.clock.specs.Fit.{fitClock}
-use Rattle.clock.specs.declared.Shown.{Shown}
-use Rattle.clock.specs.declared.Written.{Written}
 use Rattle.mbc3.specs.Registers.{forRam, forClock, fitRegisters}
-use Rattle.mbc3.specs.ClockWindow.{onClock, byteOr, windowRead, clockOr, windowWritten}
 use Rattle.mbc3.specs.declared.Mbc3.{Mbc3}
 
 -- ---- the selection's nibble
@@ -36,30 +32,6 @@ below-clock byte h =
 pub above-clock : (byte : ℕ) → 13 ≤ bitAnd byte 15 → forClock byte ≡ false
 above-clock byte h =
     ap (both (leb 8 (byte % 16))) (lt-leb (byte % 16) 12 (omega (arith, and-mask byte 4))) ∙ both-false (leb 8 (byte % 16))
-
--- ---- the clock in the window
-
-pub on-tested : (m : Mbc3) {t u : Bool} → t ≡ both (m .timer) u → u ≡ both (m .enabled) (not (m .memory)) → t ≡ onClock m
-on-tested m p q = p ∙ ap (both (m .timer)) q
-
-pub read-on : (m : Mbc3) (s : Shown) → onClock m ≡ true → shownOf (m .clock) (m .register) ≡ s → byteOr s ≡ windowRead m
-unfolding windowRead
-read-on m s on e =
-    sym (ap (λ (t : Bool). pick t (byteOr (shownOf (m .clock) (m .register))) 0xFF) on ∙ ap byteOr e)
-
-pub read-off : (m : Mbc3) → onClock m ≡ false → 0xFF ≡ windowRead m
-unfolding windowRead
-read-off m off = sym (ap (λ (t : Bool). pick t (byteOr (shownOf (m .clock) (m .register))) 0xFF) off)
-
-pub write-on : (m : Mbc3) (byte : ℕ) (w : Written) → onClock m ≡ true → writtenOf (m .clock) (m .register) byte ≡ w
-    → clockOr m w ≡ windowWritten m byte
-unfolding windowWritten
-write-on m byte w on e =
-    sym (ap (λ (t : Bool). pick t (clockOr m (writtenOf (m .clock) (m .register) byte)) m) on ∙ ap (clockOr m) e)
-
-pub write-off : (m : Mbc3) (byte : ℕ) → onClock m ≡ false → m ≡ windowWritten m byte
-unfolding windowWritten
-write-off m byte off = sym (ap (λ (t : Bool). pick t (clockOr m (writtenOf (m .clock) (m .register) byte)) m) off)
 
 -- ---- fitness, as the code tests it: eight bits are at most 255
 

@@ -1,11 +1,8 @@
-// MBC3: up to 256 ROM banks, four RAM banks, and on some boards a clock whose registers stand in the RAM window.
+// MBC3: up to 256 ROM banks, four RAM banks, and on some boards a clock, which the crate timer reads, writes and advances.
 ghost use mathlib.Core.Path.{_≡_};
 ghost use Rattle.mbc3.specs.Registers.{start, selectable, selected, latched, written, bank0, bankX, ramAt, fitRegisters};
-ghost use Rattle.mbc3.specs.ClockWindow.{windowRead, windowWritten};
 use banking::RamAt;
 use clock::Clock;
-use clock::Shown;
-use clock::Written;
 use facts::both;
 
 pub struct Mbc3 {
@@ -132,36 +129,5 @@ impl Mbc3 {
             return both(banks, both(self.register <= 4, clock.fit()));
         }
         banks
-    }
-
-    // What the RAM window reads where RAM is not selected: the clock register, or 0xFF.
-    pub fn read_clock(self) -> u8
-        ensures { λ r. ⌜ r ≡ windowRead self ⌝ }
-    {
-        if both(self.timer, both(self.enabled, !self.memory)) {
-            let clock = self.clock;
-            return match clock.read(self.register) {
-                Shown::Byte(b) => b,
-                Shown::NoRegister => 0xFF,
-            };
-        }
-        0xFF
-    }
-
-    // A byte written to the RAM window where RAM is not selected.
-    pub fn write_clock(self, byte: u8) -> Self
-        ensures { λ r. ⌜ r ≡ windowWritten self byte ⌝ }
-    {
-        if both(self.timer, both(self.enabled, !self.memory)) {
-            let clock = self.clock;
-            return match clock.write(self.register, byte) {
-                Written::To(next) => Mbc3 {
-                    clock: next,
-                    ..self
-                },
-                Written::NoRegister => self,
-            };
-        }
-        self
     }
 }

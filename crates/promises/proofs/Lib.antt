@@ -3,3 +3,7 @@ pub mod Demand3
 pub mod ImageLaws
 pub mod Verdict
 pub mod Bench
+pub mod MapperLaws
+pub mod BusLaws
+pub mod RunLaws
+pub mod Bus

@@ -1,3 +1,4 @@
 pub mod Time
 pub mod Padded
 pub mod Limits
+pub mod Calls

@@ -12,7 +12,9 @@ padded-len-requires : tie.Need-padded-len-requires
 padded-len-requires c κs = search needs
 
 cast-len : tie.Need-cast-len
-cast-len c = let z = c .before .before in omega (arith, c .padded-len .ensures, padded-le (length (now (z .args .image))) (z .pre))
+cast-len c =
+    let z = c .before .before in
+    omega (arith, c .padded-len .ensures, padded-le (length (now (z .args .image))) (z .pre))
 
 byte-at-requires : tie.Need-byte-at-requires
 byte-at-requires c κs = search needs

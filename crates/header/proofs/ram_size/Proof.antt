@@ -20,7 +20,7 @@ returns-5 c = rw (c .match .keys5)
 
 returns-6 : tie.Need-returns-6
 returns-6 c = let m = c .match .rest in
-    ram-last (c .before .args .code) (m .0 .0 .0 .0 .1) (m .0 .0 .0 .1) (m .0 .0 .1) (m .0 .1) (m .1)
+    ram-last (c .before .args .code) (c .before .pre) (m .0 .0 .0 .0 .1) (m .0 .0 .0 .1) (m .0 .0 .1) (m .0 .1) (m .1)
 
 pub ram-size-spec : {M : Type 1} → statement M
 ram-size-spec = tie.close (tie.spec returns returns-2 returns-3 returns-4 returns-5 returns-6)

@@ -11,7 +11,9 @@ or-one-requires c κs = search needs
 
 returns : tie.Need-returns
 unfolding lowOf
-returns c = simp (c .if1 .taken) (and-mask (c .before .or-one .result) 4 ∙ simp (c .before .or-one .ensures, and-mask (c .before .before .args .byte) 5))
+returns c =
+    simp (c .if1 .taken)
+    (and-mask (c .before .or-one .result) 4 ∙ simp (c .before .or-one .ensures, and-mask (c .before .before .args .byte) 5))
 
 returns-2 : tie.Need-returns-2
 unfolding lowOf

@@ -22,7 +22,10 @@ cast-run-3 : tie.Need-cast-run-3
 cast-run-3 c = search needs
 
 run-requires-3 : tie.Need-run-requires-3
-run-requires-3 c κs = let d = c .before .before .before .before .before in let f = fit-bounds (d .args .self) (d .pre) in omega arith
+run-requires-3 c κs =
+    let d = c .before .before .before .before .before in
+    let f = fit-bounds (d .args .self) (d .pre) in
+    omega arith
 
 cast-from-below : tie.Need-cast-from-below
 cast-from-below c = search needs

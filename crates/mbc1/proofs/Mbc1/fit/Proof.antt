@@ -10,7 +10,9 @@ both-requires : tie.Need-both-requires
 both-requires c κs = search needs
 
 returns : tie.Need-returns
-returns c = let d = c .before .before .before in fit-tested (d .before .args .self) true (d .if1 .taken) refl (c .both .ensures)
+returns c =
+    let d = c .before .before .before in
+    fit-tested (d .before .args .self) true (d .if1 .taken) refl (c .both .ensures)
 
 both-requires-2 : tie.Need-both-requires-2
 both-requires-2 c κs = search needs

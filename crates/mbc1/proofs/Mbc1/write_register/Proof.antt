@@ -19,15 +19,21 @@ returns-2 c = simp (le-ltb _ _ (c .before .before .if1 .left), lt-ltb _ _ (c .be
 
 returns-3 : tie.Need-returns-3
 unfolding written
-returns-3 c = simp (le-ltb _ _ (c .before .before .if1 .left), le-ltb _ _ (c .before .if2 .left), lt-ltb _ _ (c .if3 .taken), and-mask (c .before .before .before .args .byte) 2)
+returns-3 c =
+    simp
+    (le-ltb _ _ (c .before .before .if1 .left), le-ltb _ _ (c .before .if2 .left), lt-ltb _ _ (c .if3 .taken), and-mask (c .before .before .before .args .byte) 2)
 
 returns-4 : tie.Need-returns-4
 unfolding written
-returns-4 c = simp (le-ltb _ _ (c .before .before .before .if1 .left), le-ltb _ _ (c .before .before .if2 .left), le-ltb _ _ (c .before .if3 .left), lt-ltb _ _ (c .if4 .taken), and-mask (c .before .before .before .before .args .byte) 1)
+returns-4 c =
+    simp
+    (le-ltb _ _ (c .before .before .before .if1 .left), le-ltb _ _ (c .before .before .if2 .left), le-ltb _ _ (c .before .if3 .left), lt-ltb _ _ (c .if4 .taken), and-mask (c .before .before .before .before .args .byte) 1)
 
 returns-5 : tie.Need-returns-5
 unfolding written
-returns-5 c = simp (le-ltb _ _ (c .before .before .before .if1 .left), le-ltb _ _ (c .before .before .if2 .left), le-ltb _ _ (c .before .if3 .left), le-ltb _ _ (c .if4 .left))
+returns-5 c =
+    simp
+    (le-ltb _ _ (c .before .before .before .if1 .left), le-ltb _ _ (c .before .before .if2 .left), le-ltb _ _ (c .before .if3 .left), le-ltb _ _ (c .if4 .left))
 
 pub write-register-spec : {M : Type 1} → statement M
 write-register-spec =

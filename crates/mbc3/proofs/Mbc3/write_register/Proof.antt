@@ -21,19 +21,27 @@ returns c = simp (lt-ltb _ _ (c .before .if1 .taken), and-mask (c .before .befor
 
 returns-2 : tie.Need-returns-2
 unfolding written
-returns-2 c = simp (le-ltb _ _ (c .before .before .before .if1 .left), lt-ltb _ _ (c .before .before .if2 .taken), c .before .or-one .ensures)
+returns-2 c =
+    simp
+    (le-ltb _ _ (c .before .before .before .if1 .left), lt-ltb _ _ (c .before .before .if2 .taken), c .before .or-one .ensures)
 
 returns-3 : tie.Need-returns-3
 unfolding written
-returns-3 c = simp (le-ltb _ _ (c .before .before .before .if1 .left), le-ltb _ _ (c .before .before .if2 .left), lt-ltb _ _ (c .before .if3 .taken), c .select .ensures)
+returns-3 c =
+    simp
+    (le-ltb _ _ (c .before .before .before .if1 .left), le-ltb _ _ (c .before .before .if2 .left), lt-ltb _ _ (c .before .if3 .taken), c .select .ensures)
 
 returns-4 : tie.Need-returns-4
 unfolding written
-returns-4 c = simp (le-ltb _ _ (c .before .before .before .before .if1 .left), le-ltb _ _ (c .before .before .before .if2 .left), le-ltb _ _ (c .before .before .if3 .left), lt-ltb _ _ (c .before .if4 .taken), c .latch .ensures)
+returns-4 c =
+    simp
+    (le-ltb _ _ (c .before .before .before .before .if1 .left), le-ltb _ _ (c .before .before .before .if2 .left), le-ltb _ _ (c .before .before .if3 .left), lt-ltb _ _ (c .before .if4 .taken), c .latch .ensures)
 
 returns-5 : tie.Need-returns-5
 unfolding written
-returns-5 c = simp (le-ltb _ _ (c .before .before .before .if1 .left), le-ltb _ _ (c .before .before .if2 .left), le-ltb _ _ (c .before .if3 .left), le-ltb _ _ (c .if4 .left))
+returns-5 c =
+    simp
+    (le-ltb _ _ (c .before .before .before .if1 .left), le-ltb _ _ (c .before .before .if2 .left), le-ltb _ _ (c .before .if3 .left), le-ltb _ _ (c .if4 .left))
 
 pub write-register-spec : {M : Type 1} → statement M
 write-register-spec =

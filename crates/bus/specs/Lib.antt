@@ -1,0 +1,3 @@
+pub mod Bus
+pub mod Advance
+pub mod Run

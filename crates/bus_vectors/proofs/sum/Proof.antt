@@ -1,0 +1,48 @@
+-- `bus_vectors::sum` meets its contract: it ends. Assumes nothing.
+use borrow.Author.Needs.{needs}
+use Rattle.bus_vectors.proofs.sum.Statement.{statement}
+use Rattle.bus_vectors.proofs.sum.Tie as tie
+use Prim.Native.Nat.{_-_, _≤_}
+use native.Mathlib.Omega.{arith}
+use lib.ListN.{length}
+
+abbrev Inv-loop : tie.InvT-loop
+Inv-loop ram s₀ i₀ s i = i ≤ length ram
+
+abbrev μ-loop : tie.MeasureT-loop
+μ-loop ram s₀ i₀ s i = length ram - i
+
+loop-holds : tie.Need-loop-holds Inv-loop μ-loop
+loop-holds c = omega arith
+
+shared-slice-read-folded : tie.Need-shared-slice-read-folded Inv-loop μ-loop
+shared-slice-read-folded c = omega arith
+
+folded-requires : tie.Need-folded-requires Inv-loop μ-loop
+folded-requires c κs = search needs
+
+add-i : tie.Need-add-i Inv-loop μ-loop
+add-i c = omega arith
+
+loop-less : tie.Need-loop-less Inv-loop μ-loop
+loop-less c = omega arith
+
+loop-again : tie.Need-loop-again Inv-loop μ-loop
+loop-again c = omega arith
+
+returns : tie.Need-returns Inv-loop μ-loop
+returns c = search needs
+
+pub sum-spec : {M : Type 1} → statement M
+sum-spec =
+    tie.close
+    (tie.spec
+    Inv-loop
+    μ-loop
+    loop-holds
+    shared-slice-read-folded
+    folded-requires
+    add-i
+    loop-less
+    loop-again
+    returns)

@@ -1,0 +1,2 @@
+pub mod ClockWindow
+pub mod Advance
