@@ -4,8 +4,8 @@
 # A program's arrays stand on the stack, and images of 8 MiB need more than the usual limit. Four provers at a time keep two cores
 # busy: the wrong programs go in rounds that wait for their slowest.
 test: kit
-	@ulimit -S -s 65536 2>/dev/null || { \
-	  echo "The stack cannot be raised to 64 MiB: 'ulimit -H -s' says $$(ulimit -H -s) KiB. The programs large_vectors and bus_vectors need more than 8192."; \
+	@ulimit -S -s 65536 2>/dev/null || ulimit -S -s 16384 2>/dev/null || { \
+	  echo "The stack cannot be raised to 16 MiB: 'ulimit -H -s' says $$(ulimit -H -s) KiB. The programs large_vectors and bus_vectors need more than 8192."; \
 	  exit 1; }; \
 	RT_JOBS=$${RT_JOBS:-4} rt ci
 
