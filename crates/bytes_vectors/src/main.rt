@@ -2,13 +2,9 @@
 // least byte first.
 use libc::STDOUT_FILENO;
 
-fn digit(n: u8) -> u8 {
-    let d = n % 16;
-    if d < 10 { 48 + d } else { 55 + d }
-}
-
 fn show(b: u8) {
-    io::write_all(STDOUT_FILENO, &[digit(b / 16), digit(b), b' ']);
+    io::print_decimal(STDOUT_FILENO, b as u64);
+    io::write_all(STDOUT_FILENO, b" ");
 }
 
 fn show_all(bytes: &[u8]) {

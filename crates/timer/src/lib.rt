@@ -1,6 +1,6 @@
 // The clock of an MBC3: its registers where they stand in the RAM window, and clocks that pass.
 ghost use mathlib.Core.Path.{_≡_};
-ghost use Rattle.timer.specs.ClockWindow.{windowRead, windowWritten};
+ghost use Rattle.timer.specs.ClockWindow.{onClock, windowRead, windowWritten};
 ghost use Rattle.timer.specs.Advance.{fromClock, advanceOf};
 ghost use Rattle.clock.specs.Ticking as ticking;
 use clock::AdvanceRefusal;
@@ -15,11 +15,18 @@ pub enum Advanced {
     Refuse(AdvanceRefusal),
 }
 
+// Whether a clock register stands in the RAM window.
+fn on_clock(m: Mbc3) -> bool
+    ensures { λ r. ⌜ r ≡ onClock m ⌝ }
+{
+    both(m.timer, both(m.enabled, !m.memory))
+}
+
 // What the RAM window reads where RAM is not selected: the clock register, or 0xFF.
 pub fn read(m: Mbc3) -> u8
     ensures { λ r. ⌜ r ≡ windowRead m ⌝ }
 {
-    if both(m.timer, both(m.enabled, !m.memory)) {
+    if on_clock(m) {
         let clock = m.clock;
         return match clock.read(m.register) {
             Shown::Byte(b) => b,
@@ -33,7 +40,7 @@ pub fn read(m: Mbc3) -> u8
 pub fn write(m: Mbc3, byte: u8) -> Mbc3
     ensures { λ r. ⌜ r ≡ windowWritten m byte ⌝ }
 {
-    if both(m.timer, both(m.enabled, !m.memory)) {
+    if on_clock(m) {
         let clock = m.clock;
         return match clock.write(m.register, byte) {
             Written::To(next) => Mbc3 { clock: next, ..m },

@@ -16,7 +16,8 @@ both-requires-2 : tie.Need-both-requires-2
 both-requires-2 c κs = search needs
 
 returns : tie.Need-returns
-returns c = let b = c .before in let t = b .before .before .before .before in let a = t .before .before .before .args in
+returns c =
+    let b = c .before in let t = b .before .before .before .before in let a = t .before .before .before .args in
     unfit-answer (a .m) (a .n) (search needs) (sym (rest-tested (a .m) (b .both2 .ensures) (t .both .ensures) (b .before .either .ensures)) ∙ not-true _ (c .if1 .taken))
 
 advance-clock-requires : tie.Need-advance-clock-requires

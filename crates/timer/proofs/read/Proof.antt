@@ -3,13 +3,10 @@ use borrow.Author.Needs.{needs}
 use Rattle.timer.proofs.read.Statement.{statement}
 use Rattle.timer.proofs.read.Tie as tie
 use mathlib.Core.Path.{sym, _∙_}
-use Rattle.timer.proofs.WindowLaws.{on-tested, read-on, read-off}
+use Rattle.timer.proofs.WindowLaws.{read-on, read-off}
 
-both-requires : tie.Need-both-requires
-both-requires c κs = search needs
-
-both-requires-2 : tie.Need-both-requires-2
-both-requires-2 c κs = search needs
+on-clock-requires : tie.Need-on-clock-requires
+on-clock-requires c κs = search needs
 
 read-requires : tie.Need-read-requires
 read-requires c κs = search needs
@@ -23,34 +20,19 @@ enum-told c = search needs
 returns : tie.Need-returns
 returns c =
     let r = c .before .before .before in
-    let t = r .before .before .before in
-    let s = t .before .before .before .args .m in
-    read-on s _ (sym (on-tested s (t .both2 .ensures) (t .before .both .ensures)) ∙ r .before .before .if1 .taken)
-    (sym (r .read .ensures) ∙ c .before .b .given .1)
+    let t = r .before .before in
+    read-on (t .before .before .args .m) _ (sym (t .before .on-clock .ensures) ∙ t .if1 .taken) (sym (r .read .ensures) ∙ c .before .b .given .1)
 
 returns-2 : tie.Need-returns-2
 returns-2 c =
     let r = c .before .before in
-    let t = r .before .before .before in
-    let s = t .before .before .before .args .m in
-    read-on s _ (sym (on-tested s (t .both2 .ensures) (t .before .both .ensures)) ∙ r .before .before .if1 .taken)
-    (sym (r .read .ensures) ∙ c .enum-told .given .1)
+    let t = r .before .before in
+    read-on (t .before .before .args .m) _ (sym (t .before .on-clock .ensures) ∙ t .if1 .taken) (sym (r .read .ensures) ∙ c .enum-told .given .1)
 
 returns-3 : tie.Need-returns-3
-returns-3 c =
-    let t = c .before in
-    let s = t .before .before .before .args .m in
-    read-off s (sym (on-tested s (t .both2 .ensures) (t .before .both .ensures)) ∙ c .if1 .left)
+returns-3 c = read-off (c .before .before .args .m) (sym (c .before .on-clock .ensures) ∙ c .if1 .left)
 
 pub read-spec : {M : Type 1} → statement M
 read-spec =
     tie.close
-    (tie.spec
-    both-requires
-    both-requires-2
-    read-requires
-    enum-known-b
-    enum-told
-    returns
-    returns-2
-    returns-3)
+    (tie.spec on-clock-requires read-requires enum-known-b enum-told returns returns-2 returns-3)
