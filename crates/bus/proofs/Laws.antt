@@ -19,7 +19,8 @@ use Rattle.access.specs.Verdict.{verdictOf}
 use Rattle.access.specs.declared.Verdict.{Verdict}
 use Rattle.access.specs.declared.Verdict.the-variants.{Rom, Ram}
 use Rattle.access.proofs.Laws.{taken-fit, taken-lent}
-use Rattle.bus.specs.Bus.{lentArea, readVerdict, writeVerdict, readBy, readOf, writeBy, areaBy, writeOf, areaAfter, withMapper}
+use Rattle.cartridge.specs.With.{withMapper}
+use Rattle.bus.specs.Bus.{lentArea, readVerdict, writeVerdict, readBy, readOf, writeBy, areaBy, writeOf, areaAfter}
 use Rattle.bus.specs.Advance.{advanceOf, fromMapper}
 use Rattle.bus.specs.declared.Advanced.{Advanced}
 use Rattle.bus.specs.declared.Advanced.the-variants as clocks

@@ -10,7 +10,7 @@ use Rattle.mapper.specs.declared.Advanced as declared
 use Rattle.mapper.specs.declared.Advanced.the-variants as moved
 use Rattle.cartridge.specs.Fit.{fitCart}
 use Rattle.cartridge.specs.declared.Cartridge.{Cartridge}
-use Rattle.bus.specs.Bus.{withMapper}
+use Rattle.cartridge.specs.With.{withMapper}
 use Rattle.bus.specs.declared.Advanced.{Advanced}
 use Rattle.bus.specs.declared.Advanced.the-variants.{To, Refuse}
 

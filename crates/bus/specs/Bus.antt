@@ -9,9 +9,9 @@ use Rattle.facts.specs.Choice.{both}
 use Rattle.banking.specs.Banks.{romPlace}
 use Rattle.image.specs.Image.{byteAt}
 use Rattle.mapper.specs.Mappers.{bankAt, written, badSelection}
-use Rattle.mapper.specs.declared.Mapper.{Mapper}
 use Rattle.window.specs.Window as window
 use Rattle.cartridge.specs.Fit.{areaOf}
+use Rattle.cartridge.specs.With.{withMapper}
 use Rattle.cartridge.specs.declared.Cartridge.{Cartridge}
 use Rattle.access.specs.Verdict.{verdictOf}
 use Rattle.access.specs.declared.Verdict.{Verdict}
@@ -45,10 +45,6 @@ readBy c rom ram addr (verdict.Refuse w) = read.Refuse w
 
 unfoldable pub readOf : Cartridge → List ℕ → List ℕ → ℕ → ReadAnswer
 readOf c rom ram addr = readBy c rom ram addr (readVerdict c rom ram addr)
-
--- the mapper alone changed
-abbrev pub withMapper : Cartridge → Mapper → Cartridge
-withMapper c m = record { length = c .length; banks = c .banks; size = c .size; battery = c .battery; mapper = m }
 
 abbrev pub writeBy : Cartridge → ℕ → ℕ → Verdict → WriteAnswer
 writeBy c addr byte verdict.Rom = write.Done (withMapper c (written (c .mapper) addr byte))

@@ -69,7 +69,7 @@ unfolding bytesOf
 length-bytes zero n = refl
 length-bytes (suc w) n = ap suc (length-bytes w (n / 256))
 
-sets-join : (s : List ℕ) (at : ℕ) (xs ys : List ℕ) → sets (sets s at xs) (at + length xs) ys ≡ sets s at (xs ++ ys)
+pub sets-join : (s : List ℕ) (at : ℕ) (xs ys : List ℕ) → sets (sets s at xs) (at + length xs) ys ≡ sets s at (xs ++ ys)
 sets-join s at [] ys = ap (λ (k : ℕ). sets s k ys) (add-zero at)
 sets-join s at (x ∷ xs) ys =
     let e : at + suc (length xs) ≡ suc at + length xs = omega arith in
@@ -94,7 +94,7 @@ put-length w s at n = length-sets s at (bytesOf w n)
 
 -- ---- what is written reads back
 
-value-bytes : (w n : ℕ) → n < room w → valueOf (bytesOf w n) ≡ n
+pub value-bytes : (w n : ℕ) → n < room w → valueOf (bytesOf w n) ≡ n
 unfolding valueOf bytesOf
 value-bytes zero n h = omega arith
 value-bytes (suc w) n h =

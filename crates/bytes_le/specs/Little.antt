@@ -1,6 +1,6 @@
 -- Numbers in bytes, the least first: "little-endian" (document 01, "The save file" and "The trace").
 use mathlib.Core.List.{List, [], _∷_}
-use Prim.Native.Nat.{ℕ, zero, suc, _+_, _*_, _/_, _%_}
+use Prim.Native.Nat.{ℕ, zero, suc, _+_, _*_, _/_, _%_, _<_}
 use lib.ListN.{take, drop}
 use lib.Seq.{sets}
 
@@ -21,3 +21,8 @@ fieldAt w s at = valueOf (take w (drop at s))
 -- the same bytes with the w bytes of n stored from a place on
 unfoldable pub putAt : ℕ → List ℕ → ℕ → ℕ → List ℕ
 putAt w s at n = sets s at (bytesOf w n)
+
+-- bytes of eight bits
+abbrev pub Octets : List ℕ → Type 0
+Octets [] = Unit {0}
+Octets (b ∷ bs) = (b < 256) × Octets bs

@@ -1,11 +1,11 @@
-// Numbers of two, four and eight bytes, the least byte first, read from lent bytes and written to them at a place. A wider field is
+// Numbers of one, two, four and eight bytes, the least byte first, read from lent bytes and written to them at a place. A wider field is
 // two of half its width, one behind the other.
 ghost use mathlib.Core.Path.{_≡_};
 ghost use Prim.Native.Nat.{_+_, _≤_};
 ghost use lib.ListN.{length};
 ghost use Rattle.bytes_le.specs.Little.{fieldAt, putAt};
 
-fn read_u8(bytes: &[u8], at: usize) -> u8
+pub fn read_u8(bytes: &[u8], at: usize) -> u8
     requires { ⌜ at + 1 ≤ length (now bytes) ⌝ }
     ensures { λ r. ⌜ r ≡ fieldAt 1 (now (bytes .entry)) at ⌝ }
 {
@@ -39,7 +39,7 @@ pub fn read_u64(bytes: &[u8], at: usize) -> u64
     low + 4294967296 * high
 }
 
-fn write_u8(bytes: &mut [u8], at: usize, n: u8)
+pub fn write_u8(bytes: &mut [u8], at: usize, n: u8)
     requires { ⌜ at + 1 ≤ length (now bytes) ⌝ }
     ensures { λ _. ⌜ now (bytes .exit) ≡ putAt 1 (now (bytes .entry)) at n ⌝ }
 {

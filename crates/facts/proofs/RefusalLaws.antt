@@ -5,8 +5,8 @@ use mathlib.Core.Logic.{_⊎_, inl, inr}
 use mathlib.Core.List.{List, [], _∷_, _++_}
 use Prim.Native.Nat.{ℕ, zero, suc}
 use lib.ListN.{getD}
-use Rattle.facts.specs.Choice.{pick, either}
-use Rattle.facts.specs.Refusals.{No, no, firstNo, anyNo}
+use Rattle.facts.specs.Choice.{pick}
+use Rattle.facts.specs.Refusals.{No, firstNo, anyNo, inWords}
 use Rattle.facts.proofs.ChoiceLaws.{false≢true, neither}
 
 -- t is the first of ts that holds
@@ -72,6 +72,18 @@ first-map {B = B} f refuse (t ∷ ts) a = go (t .holds) (first-map f refuse ts a
         → f (pick b (refuse (t .why)) (firstNo refuse ts a)) ≡ pick b (f (refuse (t .why))) y
     go true e = refl
     go false e = e
+
+-- tests behind others are the answer where none of those holds
+pub first-append : {R A : Type 0} (refuse : R → A) (xs ys : List (No R)) (a : A)
+    → firstNo refuse xs (firstNo refuse ys a) ≡ firstNo refuse (xs ++ ys) a
+first-append refuse [] ys a = refl
+first-append refuse (t ∷ xs) ys a = ap (pick (t .holds) (refuse (t .why))) (first-append refuse xs ys a)
+
+-- the same tests, each with what it says in other words
+pub first-said : {R S A : Type 0} (said : R → S) (refuse : S → A) (ts : List (No R)) (a : A)
+    → firstNo (λ w. refuse (said w)) ts a ≡ firstNo refuse (inWords said ts) a
+first-said said refuse [] a = refl
+first-said said refuse (t ∷ ts) a = ap (pick (t .holds) (refuse (said (t .why)))) (first-said said refuse ts a)
 
 -- where the answer is one that no refusal gives, none of the tests holds
 pub none-if : {R A : Type 0} (taken : A → Bool) (refuse : R → A) → ((w : R) → taken (refuse w) ≡ false)

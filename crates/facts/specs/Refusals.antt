@@ -19,3 +19,8 @@ firstNo refuse (t ∷ ts) a = pick (t .holds) (refuse (t .why)) (firstNo refuse 
 abbrev pub anyNo : {R : Type 0} → List (No R) → Bool
 anyNo [] = Bool.false
 anyNo (t ∷ ts) = either (t .holds) (anyNo ts)
+
+-- the same tests, with what they say in the words of another answer
+abbrev pub inWords : {R S : Type 0} → (R → S) → List (No R) → List (No S)
+inWords said [] = []
+inWords said (t ∷ ts) = no (t .holds) (said (t .why)) ∷ inWords said ts

@@ -1,6 +1,6 @@
 // What several crates need and nothing of the domain. Most of it is in specs/ (definitions) and proofs/ (laws).
 ghost use mathlib.Core.Path.{_≡_};
-ghost use Prim.Native.Nat.{_+_, _/_, _%_, _<_};
+ghost use Prim.Native.Nat.{_+_, _-_, _/_, _%_, _<_};
 ghost use Rattle.facts.specs.Choice.{both, either};
 
 // Whether both hold. `&&` and `||` as calls are said whole: an operator's arms part and meet again, and a caller's proof
@@ -16,6 +16,13 @@ pub fn either(a: bool, b: bool) -> bool
     ensures { λ r. ⌜ r ≡ either a b ⌝ }
 {
     if a { true } else { b }
+}
+
+// a less b, or 0 where that would be negative, which is what `-` means in definitions.
+pub fn saturating_sub(a: u64, b: u64) -> u64
+    ensures { λ r. ⌜ r ≡ a - b ⌝ }
+{
+    if a < b { 0 } else { a - b }
 }
 
 // A counter's value after some steps, and how many of them carried.

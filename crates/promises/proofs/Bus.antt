@@ -43,7 +43,8 @@ use Rattle.mount.specs.declared.MountRefusal.the-variants.{Header, WrongArea}
 use Rattle.mount.specs.declared.Mounted.{Mounted}
 use Rattle.mount.specs.declared.Mounted.the-variants as mounted
 use Rattle.access.specs.Verdict.{numberOf, inRom, noes, verdictOf}
-use Rattle.bus.specs.Bus.{withMapper, readOf, writeOf, areaAfter}
+use Rattle.cartridge.specs.With.{withMapper}
+use Rattle.bus.specs.Bus.{readOf, writeOf, areaAfter}
 use Rattle.bus.specs.Advance.{advanceOf, advanceNoes}
 use Rattle.bus.specs.Run.{Access, Answer, Machine, stepOf, runOf}
 use Rattle.bus.specs.Run as run

@@ -39,7 +39,8 @@ use Rattle.mount.specs.Mount.{cartOf, mountBy, mountOf}
 use Rattle.mount.specs.declared.MountRefusal.the-variants.{WrongArea}
 use Rattle.mount.specs.declared.Mounted.the-variants as mounted
 use Rattle.access.specs.Verdict.{inRom, noes, verdictOf}
-use Rattle.bus.specs.Bus.{lentArea, writeVerdict, withMapper, writeBy, areaBy, writeOf, areaAfter}
+use Rattle.cartridge.specs.With.{withMapper}
+use Rattle.bus.specs.Bus.{lentArea, writeVerdict, writeBy, areaBy, writeOf, areaAfter}
 use Rattle.bus.specs.Advance.{advanceOf}
 use Rattle.access.specs.declared.BusRefusal.{BusRefusal}
 use Rattle.access.specs.declared.Verdict.{Verdict}
@@ -52,12 +53,12 @@ use Rattle.promises.proofs.MapperLaws as kept
 
 -- ---- another mapper in a fit cartridge
 
-pub fit-with : (c : Cartridge) (m : Mapper) → fitCart c ≡ true
-    → mapper.holds m (c .banks) (c .size) ≡ mapper.holds (c .mapper) (c .banks) (c .size)
+pub fit-with : (c : Cartridge) (m : Mapper) → fitCart c ≡ true → kept.Same (c .mapper) m
     → (mapper.fitRegisters (c .mapper) ≡ true → mapper.fitRegisters m ≡ true) → fitCart (withMapper c m) ≡ true
 unfolding fitCart fitBoard
 fit-with c m fit same registers =
-    let board : fitBoard (withMapper c m) ≡ true = rw same (fit-board c fit) in
+    let limits = same .limits (c .banks) (c .size) in
+    let board : fitBoard (withMapper c m) ≡ true = rw limits (fit-board c fit) in
     both-true board (registers (fit-registers c fit))
 
 -- ---- an accepted write
@@ -101,11 +102,11 @@ write-fit c d ram addr byte l e = let t = write-taken c d ram addr byte e in ap 
     go : (m : Mapper) → (m ≡ mapper.written (c .mapper) addr byte) ⊎ (m ≡ window.mapperAfter (c .mapper) (c .size) addr byte)
         → fitCart c ≡ true → fitCart (withMapper c m) ≡ true
     go m (inl p) fit =
-        fit-with c m fit (ap (λ (x : Mapper). mapper.holds x (c .banks) (c .size)) p ∙ kept.written-holds (c .mapper) addr byte (c .banks) (c .size))
-        (λ f. ap mapper.fitRegisters p ∙ kept.written-fit (c .mapper) addr byte l f)
+        ap (λ (x : Mapper). fitCart (withMapper c x)) p
+        ∙ fit-with c _ fit (kept.written-same (c .mapper) addr byte) (kept.written-fit (c .mapper) addr byte l)
     go m (inr p) fit =
-        fit-with c m fit (ap (λ (x : Mapper). mapper.holds x (c .banks) (c .size)) p ∙ kept.window-holds (c .mapper) (c .size) addr byte (c .banks))
-        (λ f. ap mapper.fitRegisters p ∙ kept.window-fit (c .mapper) (c .size) addr byte l f)
+        ap (λ (x : Mapper). fitCart (withMapper c x)) p
+        ∙ fit-with c _ fit (kept.window-same (c .mapper) (c .size) addr byte) (kept.window-fit (c .mapper) (c .size) addr byte l)
 
 pub write-area-stays : (c d : Cartridge) (ram : List ℕ) (addr byte : ℕ) → writeOf c ram addr byte ≡ write.Done d
     → areaOf d ≡ areaOf c
@@ -113,8 +114,8 @@ write-area-stays c d ram addr byte e = let t = write-taken c d ram addr byte e i
   where
     go : (m : Mapper) → (m ≡ mapper.written (c .mapper) addr byte) ⊎ (m ≡ window.mapperAfter (c .mapper) (c .size) addr byte)
         → mapper.areaOf m (c .size) ≡ areaOf c
-    go m (inl p) = ap (λ (x : Mapper). mapper.areaOf x (c .size)) p ∙ kept.written-area (c .mapper) addr byte (c .size)
-    go m (inr p) = ap (λ (x : Mapper). mapper.areaOf x (c .size)) p ∙ kept.window-area (c .mapper) (c .size) addr byte
+    go m (inl p) = ap (λ (x : Mapper). mapper.areaOf x (c .size)) p ∙ kept.written-same (c .mapper) addr byte .area (c .size)
+    go m (inr p) = ap (λ (x : Mapper). mapper.areaOf x (c .size)) p ∙ kept.window-same (c .mapper) (c .size) addr byte .area (c .size)
 
 -- ---- an accepted advance
 
@@ -138,7 +139,7 @@ pub advance-fit : (c d : Cartridge) (n : ℕ) → advanceOf c n ≡ advanced.To 
 advance-fit c d n e =
     let t = advance-taken c d n e in
     ap fitCart (t .is)
-    ∙ fit-with c (mapper.clocksOn (c .mapper) n) (t .fit) (kept.clocks-holds (c .mapper) n (c .banks) (c .size))
+    ∙ fit-with c (mapper.clocksOn (c .mapper) n) (t .fit) (kept.clocks-same (c .mapper) n)
     (kept.clocks-fit (c .mapper) n)
 
 -- ---- an accepted mounting

@@ -7,3 +7,5 @@ pub mod MapperLaws
 pub mod BusLaws
 pub mod RunLaws
 pub mod Bus
+pub mod SaveLaws
+pub mod Save

@@ -16,11 +16,14 @@ use Rattle.mbc2.proofs.Laws as mbc2-laws
 use Rattle.mbc3.proofs.FitLaws as mbc3-laws
 use Rattle.timer.proofs.FitLaws as timer-laws
 use Rattle.mbc5.proofs.Laws as mbc5-laws
+use Rattle.clock.specs.Fit.{fitClock}
+use Rattle.clock.specs.declared.Clock.{Clock}
 use Rattle.mapper.specs.Mappers.{holds, fitRegisters, areaOf, written, clocksOn}
 use Rattle.mapper.specs.declared.Mapper.{Mapper}
 use Rattle.mapper.specs.declared.Mapper.the-variants.{NoMapper, Mbc1, Mbc2, Mbc3, Mbc5}
 use Rattle.window.specs.Window.{mapperBy, mapperAfter}
 use Rattle.window.specs.declared.Way.{Way}
+use Rattle.battery.specs.Battery.{withClock}
 use Rattle.mount.specs.Mount.{startOf}
 
 -- ---- fit registers
@@ -49,7 +52,14 @@ clocks-fit (Mbc2 m) n e = e
 clocks-fit (Mbc3 m) n e = timer-laws.clocks-fit m n e
 clocks-fit (Mbc5 m) n e = e
 
--- ---- the limits
+pub with-clock-fit : (m : Mapper) (c : Clock) → fitClock c ≡ true → fitRegisters m ≡ true → fitRegisters (withClock m c) ≡ true
+with-clock-fit (NoMapper m) c f e = e
+with-clock-fit (Mbc1 m) c f e = e
+with-clock-fit (Mbc2 m) c f e = e
+with-clock-fit (Mbc3 m) c f e = mbc3-laws.clock-fit m c e (λ _. f)
+with-clock-fit (Mbc5 m) c f e = e
+
+-- ---- the limits and the area
 
 multicart-stays : (m : declared.Mbc1) (addr byte : ℕ) → mbc1.written m addr byte .multicart ≡ m .multicart
 unfolding mbc1.written
@@ -58,56 +68,51 @@ multicart-stays m addr byte =
     pick-has P (ltb addr 0x2000) refl
     (pick-has P (ltb addr 0x4000) refl (pick-has P (ltb addr 0x6000) refl (pick-has P (ltb addr 0x8000) refl refl)))
 
-pub written-holds : (m : Mapper) (addr byte banks size : ℕ) → holds (written m addr byte) banks size ≡ holds m banks size
-unfolding holds
-written-holds (NoMapper m) addr byte banks size = refl
-written-holds (Mbc1 m) addr byte banks size =
-    ap (λ (t : Bool). both (not (ltb 128 banks)) (either (not t) (eqb banks 64))) (multicart-stays m addr byte)
-written-holds (Mbc2 m) addr byte banks size = refl
-written-holds (Mbc3 m) addr byte banks size = refl
-written-holds (Mbc5 m) addr byte banks size = refl
+-- what a mapper's registers do not touch: its limits, and the area's length
+pub record Same (m n : Mapper) : Type 0 where
+  pub limits : (banks size : ℕ) → holds n banks size ≡ holds m banks size
+  pub area : (size : ℕ) → areaOf n size ≡ areaOf m size
 
-pub window-holds : (m : Mapper) (size addr byte banks : ℕ) → holds (mapperAfter m size addr byte) banks size ≡ holds m banks size
+same : {m : Mapper} → Same m m
+same = record { limits = λ banks size. refl; area = λ size. refl }
+
+pub written-same : (m : Mapper) (addr byte : ℕ) → Same m (written m addr byte)
+unfolding holds
+written-same (NoMapper m) addr byte = same
+written-same (Mbc1 m) addr byte =
+    record {
+      limits = λ banks size. ap (λ (t : Bool). both (not (ltb 128 banks)) (either (not t) (eqb banks 64))) (multicart-stays m addr byte);
+      area = λ size. refl;
+    }
+written-same (Mbc2 m) addr byte = record { limits = λ banks size. refl; area = λ size. refl }
+written-same (Mbc3 m) addr byte = record { limits = λ banks size. refl; area = λ size. refl }
+written-same (Mbc5 m) addr byte = record { limits = λ banks size. refl; area = λ size. refl }
+
+pub window-same : (m : Mapper) (size addr byte : ℕ) → Same m (mapperAfter m size addr byte)
 unfolding mapperAfter holds
-window-holds (NoMapper m) size addr byte banks = refl
-window-holds (Mbc1 m) size addr byte banks = refl
-window-holds (Mbc2 m) size addr byte banks = refl
-window-holds (Mbc3 m) size addr byte banks =
-    pick-has (λ (w : Way). holds (mapperBy w (Mbc3 m) byte) banks size ≡ holds (Mbc3 m) banks size) (m .memory) refl refl
-window-holds (Mbc5 m) size addr byte banks = refl
+window-same (NoMapper m) size addr byte = same
+window-same (Mbc1 m) size addr byte = same
+window-same (Mbc2 m) size addr byte = same
+window-same (Mbc3 m) size addr byte =
+    pick-has (λ (w : Way). Same (Mbc3 m) (mapperBy w (Mbc3 m) byte)) (m .memory) same
+    (record { limits = λ banks size′. refl; area = λ size′. refl })
+window-same (Mbc5 m) size addr byte = same
 
-pub clocks-holds : (m : Mapper) (n banks size : ℕ) → holds (clocksOn m n) banks size ≡ holds m banks size
+pub clocks-same : (m : Mapper) (n : ℕ) → Same m (clocksOn m n)
 unfolding holds
-clocks-holds (NoMapper m) n banks size = refl
-clocks-holds (Mbc1 m) n banks size = refl
-clocks-holds (Mbc2 m) n banks size = refl
-clocks-holds (Mbc3 m) n banks size = refl
-clocks-holds (Mbc5 m) n banks size = refl
+clocks-same (NoMapper m) n = same
+clocks-same (Mbc1 m) n = same
+clocks-same (Mbc2 m) n = same
+clocks-same (Mbc3 m) n = record { limits = λ banks size. refl; area = λ size. refl }
+clocks-same (Mbc5 m) n = same
 
--- ---- the area's length
-
-pub written-area : (m : Mapper) (addr byte size : ℕ) → areaOf (written m addr byte) size ≡ areaOf m size
-written-area (NoMapper m) addr byte size = refl
-written-area (Mbc1 m) addr byte size = refl
-written-area (Mbc2 m) addr byte size = refl
-written-area (Mbc3 m) addr byte size = refl
-written-area (Mbc5 m) addr byte size = refl
-
-pub window-area : (m : Mapper) (size addr byte : ℕ) → areaOf (mapperAfter m size addr byte) size ≡ areaOf m size
-unfolding mapperAfter
-window-area (NoMapper m) size addr byte = refl
-window-area (Mbc1 m) size addr byte = refl
-window-area (Mbc2 m) size addr byte = refl
-window-area (Mbc3 m) size addr byte =
-    pick-has (λ (w : Way). areaOf (mapperBy w (Mbc3 m) byte) size ≡ size) (m .memory) refl refl
-window-area (Mbc5 m) size addr byte = refl
-
-pub clocks-area : (m : Mapper) (n size : ℕ) → areaOf (clocksOn m n) size ≡ areaOf m size
-clocks-area (NoMapper m) n size = refl
-clocks-area (Mbc1 m) n size = refl
-clocks-area (Mbc2 m) n size = refl
-clocks-area (Mbc3 m) n size = refl
-clocks-area (Mbc5 m) n size = refl
+pub with-clock-same : (m : Mapper) (c : Clock) → Same m (withClock m c)
+unfolding holds
+with-clock-same (NoMapper m) c = same
+with-clock-same (Mbc1 m) c = same
+with-clock-same (Mbc2 m) c = same
+with-clock-same (Mbc3 m) c = record { limits = λ banks size. refl; area = λ size. refl }
+with-clock-same (Mbc5 m) c = same
 
 -- ---- the start
 

@@ -19,7 +19,8 @@ use Rattle.mount.specs.Mount.{cartOf, mountOf}
 use Rattle.mount.specs.declared.Mounted.{Mounted}
 use Rattle.mount.specs.declared.Mounted.the-variants as mounted
 use Rattle.access.specs.Verdict.{numberOf, inRom, inRam, verdictOf}
-use Rattle.bus.specs.Bus.{lentBoth, lentArea, readVerdict, writeVerdict, readBy, readOf, writeBy, writeOf, areaAfter, withMapper}
+use Rattle.cartridge.specs.With.{withMapper}
+use Rattle.bus.specs.Bus.{lentBoth, lentArea, readVerdict, writeVerdict, readBy, readOf, writeBy, writeOf, areaAfter}
 use Rattle.bus.specs.Advance.{advanceOf}
 use Rattle.bus.specs.Run.{Access, Answer, Machine, Left, afterRead, afterWrite, afterClocks, stepOf, runOf}
 use Rattle.bus.specs.Run as run
@@ -138,7 +139,7 @@ module _ (rom : List ℕ) (m : Machine) (ready : Ready rom m) where
           record {
             fit = advance-fit (m .cart) d n e;
             image = ready .image ∙ ap (λ (x : Cartridge). x .length) (sym (t .is));
-            area = ready .area ∙ sym (ap areaOf (t .is) ∙ kept.clocks-area (m .cart .mapper) n (m .cart .size));
+            area = ready .area ∙ sym (ap areaOf (t .is) ∙ kept.clocks-same (m .cart .mapper) n .area (m .cart .size));
           }
       go (advanced.Refuse w) e = ready
 

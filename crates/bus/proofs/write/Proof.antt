@@ -5,7 +5,7 @@ use Rattle.bus.proofs.write.Tie as tie
 use denote.Ref.{now}
 use mathlib.Core.Path.{ap, _∙_}
 use Rattle.bus.specs.declared.WriteAnswer.the-variants.{Done}
-use Rattle.bus.specs.Bus.{withMapper}
+use Rattle.cartridge.specs.With.{withMapper}
 use Rattle.bus.proofs.Laws.{write-answered, area-answered, write-area}
 
 bad-selection-requires : tie.Need-bad-selection-requires

@@ -1,0 +1,156 @@
+-- The save file: "Nothing may be lost by a bad file, a short buffer or a long sleep." The theorems speak of `saveOf`, `roomAfter`,
+-- `loadOf` and `areaAfter`: the contracts of `save_file::save` and `save_file::load` say that the code's answers, every byte of the
+-- lent room and every byte of the lent RAM area equal these on all inputs. Assumes nothing.
+use mathlib.Core.Bool.{Bool, true, false}
+use mathlib.Core.List.{List, [], _∷_, _++_, map}
+use mathlib.Core.Path.{_≡_, refl, ap}
+use Prim.Native.Nat.{ℕ, _+_, _^_, _<_, _≤_}
+use lib.ListN.{length, take, drop}
+use Rattle.facts.specs.Counter.{step, carries}
+use Rattle.facts.specs.Refusals.{No, anyNo}
+use Rattle.facts.proofs.ChoiceLaws.{coincide}
+use Rattle.facts.proofs.RefusalLaws.{First, first-answers, none-accepts}
+use Rattle.bytes_le.specs.Little.{Octets}
+use Rattle.clock_registers.specs.Seconds.{secondOn, secondsOn}
+use Rattle.clock.specs.Access.{startAt}
+use Rattle.clock.specs.declared.Clock.{Clock}
+use Rattle.clock_block.specs.Layout.{blockIn}
+use Rattle.clock_block.specs.Waking.{blockOf, takenOf, timeOf, wokenOf, blockNoes}
+use Rattle.mapper.specs.declared.Mapper.{Mapper}
+use Rattle.battery.specs.Battery.{clockIn, hasClock, hasBlock}
+use Rattle.cartridge.specs.Fit.{fitCart, areaOf}
+use Rattle.cartridge.specs.declared.Cartridge.{Cartridge}
+use Rattle.save_file.specs.Admit.{numberOf, admitNoes}
+use Rattle.save_file.specs.Save.{bytesOf, saveNoes, saveOf, roomBy, roomAfter}
+use Rattle.save_file.specs.Load.{loadNoes, acceptedOf, loadOf, areaBy, areaAfter}
+use Rattle.save_file.specs.declared.SaveRefusal.{SaveRefusal}
+use Rattle.save_file.specs.declared.Saved.{Saved}
+use Rattle.save_file.specs.declared.Saved.the-variants as saved
+use Rattle.save_file.specs.declared.Loaded.{Loaded}
+use Rattle.save_file.specs.declared.Loaded.the-variants.{Whole, Refuse}
+use Rattle.bus.specs.Run.{Machine}
+use Rattle.promises.specs.Calls.{Ready}
+use Rattle.promises.specs.Saves.{Timed, Back}
+use Rattle.promises.proofs.SaveLaws as laws
+
+-- 1. The numbers stand in their order: 13, 14, 18, 21 out, and 13, 14, 18, 19, 20, 17 in,
+pub save-numbers-in-order : (c : Cartridge) (ram : List ℕ) (room wall : ℕ)
+    → map (λ (t : No SaveRefusal). numberOf (t .why)) (saveNoes c ram room wall) ≡ 13 ∷ 14 ∷ 18 ∷ 21 ∷ []
+unfolding saveNoes admitNoes
+save-numbers-in-order c ram room wall = refl
+
+pub load-numbers-in-order : (c : Cartridge) (area : ℕ) (save : List ℕ) (wall : ℕ) → hasBlock (c .mapper) (drop area save) ≡ true
+    → map (λ (t : No SaveRefusal). numberOf (t .why)) (loadNoes c area save wall) ≡ 13 ∷ 14 ∷ 18 ∷ 19 ∷ 20 ∷ 17 ∷ []
+load-numbers-in-order c area save wall h = ap (map (λ (t : No SaveRefusal). numberOf (t .why))) (laws.noes-by c area save wall h)
+
+-- the first of them that holds is the answer,
+pub save-first-is-given : (c : Cartridge) (ram : List ℕ) (room wall : ℕ) (f : First (saveNoes c ram room wall))
+    → saveOf c ram room wall ≡ saved.Refuse (f .test .why)
+unfolding saveOf
+save-first-is-given c ram room wall f =
+    first-answers saved.Refuse (saved.Wrote (length (bytesOf (c .mapper) ram wall))) (saveNoes c ram room wall) f
+
+pub load-first-is-given : (c : Cartridge) (area : ℕ) (save : List ℕ) (wall : ℕ) (f : First (loadNoes c area save wall))
+    → loadOf c area save wall ≡ Refuse (f .test .why)
+unfolding loadOf
+load-first-is-given c area save wall f = first-answers Refuse (acceptedOf c (drop area save) wall) (loadNoes c area save wall) f
+
+-- where none holds the save is made, the load too,
+pub saved-where-none : (c : Cartridge) (ram : List ℕ) (room wall : ℕ) → anyNo (saveNoes c ram room wall) ≡ false
+    → saveOf c ram room wall ≡ saved.Wrote (length (bytesOf (c .mapper) ram wall))
+unfolding saveOf
+saved-where-none c ram room wall n =
+    none-accepts saved.Refuse (saved.Wrote (length (bytesOf (c .mapper) ram wall))) (saveNoes c ram room wall) n
+
+pub loaded-where-none : (c : Cartridge) (area : ℕ) (save : List ℕ) (wall : ℕ) → anyNo (loadNoes c area save wall) ≡ false
+    → loadOf c area save wall ≡ acceptedOf c (drop area save) wall
+unfolding loadOf
+loaded-where-none c area save wall n = none-accepts Refuse (acceptedOf c (drop area save) wall) (loadNoes c area save wall) n
+
+-- and a refusal changes no byte; it hands back no state, so the caller's stays.
+pub refused-save-changes-nothing : (c : Cartridge) (ram room : List ℕ) (wall : ℕ) (w : SaveRefusal)
+    → saveOf c ram (length room) wall ≡ saved.Refuse w → roomAfter c ram room wall ≡ room
+unfolding roomAfter
+refused-save-changes-nothing c ram room wall w e = ap (roomBy (bytesOf (c .mapper) ram wall) room) e
+
+pub refused-load-changes-nothing : (c : Cartridge) (ram save : List ℕ) (wall : ℕ) (w : SaveRefusal)
+    → loadOf c (length ram) save wall ≡ Refuse w → areaAfter c ram save wall ≡ ram
+unfolding areaAfter
+refused-load-changes-nothing c ram save wall w e = ap (areaBy ram save) e
+
+-- A save that was made stands at the start of the room, and the room beyond it stays.
+pub saved-stands-first : (c : Cartridge) (ram room : List ℕ) (wall n : ℕ) → saveOf c ram (length room) wall ≡ saved.Wrote n
+    → roomAfter c ram room wall ≡ bytesOf (c .mapper) ram wall ++ drop n room
+unfolding roomAfter
+saved-stands-first c ram room wall n e = ap (roomBy (bytesOf (c .mapper) ram wall) room) e
+
+-- 2. "The way back gives the same second, minute, hour and day if the saved time was not behind the wall time on saving and the
+-- wall time is the same on reading." From any fit cartridge with a clock k to any with one, and whatever bytes follow;
+pub way-back : (c d : Cartridge) (k j : Clock) (ram rest : List ℕ) (wall : ℕ) → Timed c k (length ram) → Timed d j (length ram)
+    → wall ≤ k .time → k .time < 2 ^ 64 → Back k (loadOf d (length ram) (bytesOf (c .mapper) ram wall ++ rest) wall)
+way-back = laws.way-back
+
+-- the RAM area comes back at any wall time, with a timer or without one.
+pub ram-comes-back : (m : Mapper) (d : Cartridge) (ram area rest : List ℕ) (wall later : ℕ) → length area ≡ length ram
+    → laws.refused (loadOf d (length area) (bytesOf m ram wall ++ rest) later) ≡ false
+    → areaAfter d area (bytesOf m ram wall ++ rest) later ≡ ram
+ram-comes-back = laws.ram-back
+
+-- Neither premise can go. A clock at time 0, ten seconds behind the wall time on saving, comes back with second 10;
+pub behind-the-wall-time : wokenOf (blockOf (startAt 0) 10) 10 .running .second ≡ 10
+unfolding wokenOf blockOf takenOf secondsOn secondOn step carries
+behind-the-wall-time = refl
+
+-- one at time 10, saved at wall time 10 and read at 11, with second 1.
+pub another-wall-time : wokenOf (blockOf (startAt 10) 10) 11 .running .second ≡ 1
+unfolding wokenOf blockOf takenOf secondsOn secondOn step carries
+another-wall-time = refl
+
+-- 3. Read and written again at the same wall time, a save with a block is the same bytes, but for those that were ignored,
+-- exactly where the stored time is the wall time plus the offset;
+pub again-where : (c d : Cartridge) (ram save : List ℕ) (wall : ℕ) → loadOf c (length ram) save wall ≡ Whole d → Octets save
+    → blockIn (drop (length ram) save) .time ≡ timeOf (blockIn (drop (length ram) save)) wall
+    → bytesOf (d .mapper) (areaAfter c ram save wall) wall ≡ take (length ram + 21) save
+again-where = laws.again-if
+
+pub again-only-where : (c d : Cartridge) (ram save : List ℕ) (wall : ℕ) → loadOf c (length ram) save wall ≡ Whole d
+    → bytesOf (d .mapper) (areaAfter c ram save wall) wall ≡ take (length ram + 21) save
+    → blockIn (drop (length ram) save) .time ≡ timeOf (blockIn (drop (length ram) save)) wall
+again-only-where = laws.again-only
+
+-- without a timer always, at any wall time.
+pub again-without-timer : (c : Cartridge) (ram save : List ℕ) (wall later : ℕ) → hasClock (clockIn (c .mapper)) ≡ false
+    → laws.refused (loadOf c (length ram) save wall) ≡ false
+    → bytesOf (c .mapper) (areaAfter c ram save wall) later ≡ take (length ram) save
+again-without-timer = laws.again-ram
+
+-- 4. A save read into a cartridge leaves it fit, with the same area to lend,
+pub loaded-is-fit : (c d : Cartridge) (area : ℕ) (save : List ℕ) (wall : ℕ) → loadOf c area save wall ≡ Whole d → fitCart d ≡ true
+loaded-is-fit = laws.load-fit
+
+pub loaded-area-stays : (c d : Cartridge) (area : ℕ) (save : List ℕ) (wall : ℕ) → loadOf c area save wall ≡ Whole d
+    → areaOf d ≡ areaOf c
+loaded-area-stays = laws.load-area-stays
+
+-- so the bus goes on from there, and never gives 13 or 14.
+pub loaded-is-ready : (rom : List ℕ) (m : Machine) (d : Cartridge) (save : List ℕ) (wall : ℕ) → Ready rom m
+    → loadOf (m .cart) (length (m .area)) save wall ≡ Whole d
+    → Ready rom (record { cart = d; area = areaAfter (m .cart) (m .area) save wall })
+loaded-is-ready = laws.load-ready
+
+-- 5. Any two answers that a contract allows coincide.
+pub save-coincides : (c : Cartridge) (ram : List ℕ) (room wall : ℕ) (x y : Saved) → x ≡ saveOf c ram room wall
+    → y ≡ saveOf c ram room wall → x ≡ y
+save-coincides c ram room wall x y = coincide
+
+pub room-coincides : (c : Cartridge) (ram room : List ℕ) (wall : ℕ) (x y : List ℕ) → x ≡ roomAfter c ram room wall
+    → y ≡ roomAfter c ram room wall → x ≡ y
+room-coincides c ram room wall x y = coincide
+
+pub load-coincides : (c : Cartridge) (area : ℕ) (save : List ℕ) (wall : ℕ) (x y : Loaded) → x ≡ loadOf c area save wall
+    → y ≡ loadOf c area save wall → x ≡ y
+load-coincides c area save wall x y = coincide
+
+pub loaded-area-coincides : (c : Cartridge) (ram save : List ℕ) (wall : ℕ) (x y : List ℕ) → x ≡ areaAfter c ram save wall
+    → y ≡ areaAfter c ram save wall → x ≡ y
+loaded-area-coincides c ram save wall x y = coincide

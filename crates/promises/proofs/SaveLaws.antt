@@ -1,0 +1,344 @@
+-- Accepted loads, taken apart; what they leave fit; and what comes back. Assumes nothing.
+use mathlib.Core.Bool.{Bool, true, false, not}
+use mathlib.Core.List.{List, [], _∷_, _++_, append-assoc, append-nil}
+use mathlib.Core.Path.{_≡_, refl, sym, ap, _∙_}
+use Prim.Native.Nat.{ℕ, _+_, _-_, _^_, _<_, _≤_}
+use native.Mathlib.Omega.{arith}
+use lib.Dec.{eqb, ltb, leb}
+use lib.ListN.{length, getD, take, drop, length-append, length-drop, take-append-drop}
+use lib.Seq.{take-at, drop-at, take-add, length-take-le}
+use borrow.Author.Tests.{eq-eqb, le-ltb, le-leb, leb-true, ltb-false}
+use Rattle.facts.specs.Choice.{pick, both, either}
+use Rattle.facts.specs.Refusals.{No, no, firstNo, anyNo, inWords}
+use Rattle.facts.proofs.ChoiceLaws.{false≢true, both-true, both-left, both-right, not-false}
+use Rattle.facts.proofs.RefusalLaws.{none-if, none-at, none-accepts}
+use Rattle.banking.specs.Banks.{fromOne}
+use Rattle.bytes_le.specs.Little.{Octets}
+use Rattle.bytes_le.proofs.FieldLaws.{octets-drop}
+use Rattle.clock_registers.specs.Fit.{fitRegisters}
+use Rattle.clock_registers.specs.declared.Registers.{Registers}
+use Rattle.clock_registers.proofs.FitLaws.{fit-bounds}
+use Rattle.clock.specs.Fit.{fitClock}
+use Rattle.clock.specs.declared.Clock.{Clock}
+use Rattle.clock.proofs.FitLaws.{fit-parts}
+use Rattle.clock_block.specs.Layout.{blockBytes, blockIn}
+use Rattle.clock_block.specs.Waking.{blockOf, takenOf, timeOf, wokenOf, beyond, late, blockNoes}
+use Rattle.clock_block.specs.declared.Block.{Block}
+use Rattle.clock_block.specs.declared.BlockRefusal.the-variants as block
+use Rattle.clock_block.proofs.Laws.{length-block}
+use Rattle.clock_block.proofs.BackLaws.{Narrow, block-back, bytes-back, woken-fit, woken-same, kept-time, again-time, again-same}
+use Rattle.mbc3.specs.Registers as mbc3
+use Rattle.mapper.specs.Mappers as mapper
+use Rattle.mapper.specs.declared.Mapper.{Mapper}
+use Rattle.mapper.specs.declared.Mapper.the-variants.{NoMapper, Mbc1, Mbc2, Mbc3, Mbc5}
+use Rattle.battery.specs.Battery.{clockIn, hasClock, hasBlock, withClock, batteryBytes}
+use Rattle.battery.specs.declared.Timer.{Timer}
+use Rattle.battery.specs.declared.Timer.the-variants as timer
+use Rattle.cartridge.specs.Fit.{fitCart, areaOf}
+use Rattle.cartridge.specs.With.{withMapper}
+use Rattle.cartridge.specs.declared.Cartridge.{Cartridge}
+use Rattle.cartridge.proofs.Laws.{fit-registers}
+use Rattle.save_file.specs.Admit.{admitNoes}
+use Rattle.save_file.specs.Save.{bytesOf}
+use Rattle.save_file.specs.Load.{behindNoes, bytesNoes, acceptedOf, loadNoes, loadOf, areaAfter, areaBy}
+use Rattle.save_file.specs.declared.SaveRefusal.{SaveRefusal}
+use Rattle.save_file.specs.declared.SaveRefusal.the-variants.{Unfit, WrongLength, NoBattery, ShortSave, Block as InBlock}
+use Rattle.save_file.specs.declared.Loaded.{Loaded}
+use Rattle.save_file.specs.declared.Loaded.the-variants.{Whole, RamOnly, Refuse}
+use Rattle.bus.specs.Run.{Machine}
+use Rattle.promises.specs.Calls.{Ready}
+use Rattle.promises.specs.Saves.{SameTime, Timed, Back}
+use Rattle.promises.proofs.MapperLaws as kept
+use Rattle.promises.proofs.BusLaws.{fit-with}
+
+-- ---- an accepted load
+
+abbrev isWhole : Loaded → Bool
+isWhole (Whole c) = true
+isWhole RamOnly = false
+isWhole (Refuse w) = false
+
+-- what it relied on, and what came of the cartridge
+pub record TakenLoad (c d : Cartridge) (area : ℕ) (save : List ℕ) (wall : ℕ) : Type 0 where
+  pub fit : fitCart c ≡ true
+  pub lent : eqb area (areaOf c) ≡ true
+  pub long : ltb (length save) area ≡ false
+  pub block : hasBlock (c .mapper) (drop area save) ≡ true
+  pub registers : fitRegisters (takenOf (blockIn (drop area save))) ≡ true
+  pub early : late (blockIn (drop area save)) wall ≡ false
+  pub is : d ≡ withMapper c (withClock (c .mapper) (wokenOf (blockIn (drop area save)) wall))
+
+module _ (c : Cartridge) (area : ℕ) (save : List ℕ) (wall : ℕ) where
+  abbrev read : Block
+  read = blockIn (drop area save)
+
+  -- the answer of an accepted load, and the tests, by whether there is a block
+  abbrev answerBy : Bool → Loaded
+  answerBy t = pick t (Whole (withMapper c (withClock (c .mapper) (wokenOf read wall)))) RamOnly
+
+  abbrev noesBy : Bool → List (No SaveRefusal)
+  noesBy t =
+      no (not (fitCart c)) Unfit
+      ∷ no (not (eqb area (areaOf c))) WrongLength
+      ∷ no (not (c .battery)) NoBattery
+      ∷ no (ltb (length save) area) ShortSave
+      ∷ pick t (no (beyond read) (InBlock block.Beyond) ∷ no (late read wall) (InBlock block.Late) ∷ []) []
+
+  pub noes-by : {t : Bool} → hasBlock (c .mapper) (drop area save) ≡ t → loadNoes c area save wall ≡ noesBy t
+  unfolding loadNoes admitNoes blockNoes
+  noes-by e = ap noesBy e
+
+  answer-by : {t : Bool} → hasBlock (c .mapper) (drop area save) ≡ t → acceptedOf c (drop area save) wall ≡ answerBy t
+  unfolding acceptedOf
+  answer-by e = ap answerBy e
+
+  pub load-taken : (d : Cartridge) → loadOf c area save wall ≡ Whole d → TakenLoad c d area save wall
+  unfolding loadOf
+  load-taken d e =
+      let none = none-if isWhole Refuse (λ w. refl) (loadNoes c area save wall) (acceptedOf c (drop area save) wall) (ap isWhole e) in
+      let taken = sym (none-accepts Refuse (acceptedOf c (drop area save) wall) (loadNoes c area save wall) none) ∙ e in
+      go (hasBlock (c .mapper) (drop area save)) refl (sym (ap anyNo (noes-by refl)) ∙ none) (sym (answer-by refl) ∙ taken)
+    where
+      go : (t : Bool) → hasBlock (c .mapper) (drop area save) ≡ t → anyNo (noesBy t) ≡ false → answerBy t ≡ Whole d
+          → TakenLoad c d area save wall
+      go true h n q =
+          let clear : (i : ℕ) → getD (noesBy true) i (no false Unfit) .holds ≡ false = λ i. none-at (noesBy true) i (no false Unfit) refl n in
+          record {
+            fit = not-false (fitCart c) (clear 0);
+            lent = not-false (eqb area (areaOf c)) (clear 1);
+            long = clear 3;
+            block = h;
+            registers = not-false (fitRegisters (takenOf read)) (clear 4);
+            early = clear 5;
+            is = cc;
+          }
+      go false h n q = let z : _≡_ {A = ℕ} 0 1 = cc in absurd (omega arith)
+
+  -- and put together
+  pub load-accepts : fitCart c ≡ true → eqb area (areaOf c) ≡ true → c .battery ≡ true → ltb (length save) area ≡ false
+      → hasBlock (c .mapper) (drop area save) ≡ true → beyond read ≡ false → late read wall ≡ false
+      → loadOf c area save wall ≡ answerBy true
+  unfolding loadOf
+  load-accepts fit lent battery long h in′ early =
+      let none : anyNo (noesBy true) ≡ false = rw (fit, lent, battery, long, in′, early) refl in
+      none-accepts Refuse (acceptedOf c (drop area save) wall) (loadNoes c area save wall) (ap anyNo (noes-by h) ∙ none)
+      ∙ answer-by h
+
+-- ---- it leaves a fit cartridge, and the area its length
+
+pub load-fit : (c d : Cartridge) (area : ℕ) (save : List ℕ) (wall : ℕ) → loadOf c area save wall ≡ Whole d → fitCart d ≡ true
+load-fit c d area save wall e =
+    let t = load-taken c area save wall d e in
+    let woken = wokenOf (blockIn (drop area save)) wall in
+    ap fitCart (t .is)
+    ∙ fit-with c (withClock (c .mapper) woken) (t .fit) (kept.with-clock-same (c .mapper) woken)
+    (kept.with-clock-fit (c .mapper) woken (woken-fit (blockIn (drop area save)) wall (t .registers)))
+
+pub load-area-stays : (c d : Cartridge) (area : ℕ) (save : List ℕ) (wall : ℕ) → loadOf c area save wall ≡ Whole d
+    → areaOf d ≡ areaOf c
+load-area-stays c d area save wall e =
+    let t = load-taken c area save wall d e in
+    ap areaOf (t .is) ∙ kept.with-clock-same (c .mapper) (wokenOf (blockIn (drop area save)) wall) .area (c .size)
+
+-- ---- the clock in a mapper
+
+pub clock-fits : (m : Mapper) (k : Clock) → clockIn m ≡ timer.Clock k → mapper.fitRegisters m ≡ true → fitClock k ≡ true
+unfolding mbc3.fitRegisters
+clock-fits (NoMapper m) k e f = let z : _≡_ {A = ℕ} 0 1 = cc in absurd (omega arith)
+clock-fits (Mbc1 m) k e f = let z : _≡_ {A = ℕ} 0 1 = cc in absurd (omega arith)
+clock-fits (Mbc2 m) k e f = let z : _≡_ {A = ℕ} 0 1 = cc in absurd (omega arith)
+clock-fits (Mbc3 m) k e f = go (m .timer) e (both-right (both (fromOne 255 (m .bank)) (leb (m .ram) 3)) _ f)
+  where
+    go : (t : Bool) → pick t (timer.Clock (m .clock)) timer.Nothing ≡ timer.Clock k
+        → either (not t) (both (leb (m .register) 4) (fitClock (m .clock))) ≡ true → fitClock k ≡ true
+    go true p q = let same : m .clock ≡ k = cc in ap fitClock (sym same) ∙ both-right (leb (m .register) 4) (fitClock (m .clock)) q
+    go false p q = let z : _≡_ {A = ℕ} 0 1 = cc in absurd (omega arith)
+clock-fits (Mbc5 m) k e f = let z : _≡_ {A = ℕ} 0 1 = cc in absurd (omega arith)
+
+pub clock-with : (m : Mapper) (w : Clock) → hasClock (clockIn m) ≡ true → clockIn (withClock m w) ≡ timer.Clock w
+clock-with (NoMapper m) w e = false≢true e
+clock-with (Mbc1 m) w e = false≢true e
+clock-with (Mbc2 m) w e = false≢true e
+clock-with (Mbc3 m) w e = go (m .timer) e
+  where
+    go : (t : Bool) → hasClock (pick t (timer.Clock (m .clock)) timer.Nothing) ≡ true
+        → pick t (timer.Clock w) timer.Nothing ≡ timer.Clock w
+    go true p = refl
+    go false p = false≢true p
+clock-with (Mbc5 m) w e = false≢true e
+
+-- ---- the way back
+
+-- the fields of a fit clock's block fit their widths
+narrow : (k : Clock) (wall : ℕ) → fitClock k ≡ true → k .time < 2 ^ 64 → Narrow (blockOf k wall)
+unfolding blockOf
+narrow k wall f l =
+    let r = fit-bounds (k .running) (fit-parts k f .running) in
+    record {
+      second = omega (arith, r .second);
+      minute = omega (arith, r .minute);
+      hour = omega (arith, r .hour);
+      day = omega (arith, r .day);
+      time = l;
+      offset = omega arith;
+    }
+
+taken-registers : (k : Clock) (wall : ℕ) → fitClock k ≡ true → fitRegisters (takenOf (blockOf k wall)) ≡ true
+unfolding takenOf blockOf fitRegisters
+taken-registers k wall f = fit-parts k f .running
+
+taken-shows : (k : Clock) (wall : ℕ) → SameTime (takenOf (blockOf k wall)) (k .running)
+unfolding takenOf blockOf
+taken-shows k wall = record { second = refl; minute = refl; hour = refl; day = refl }
+
+-- what stands behind the RAM in a save, whatever follows
+behind-save : (m : Mapper) (k : Clock) (ram rest : List ℕ) (wall : ℕ) → clockIn m ≡ timer.Clock k
+    → drop (length ram) (bytesOf m ram wall ++ rest) ≡ blockBytes (blockOf k wall) ++ rest
+unfolding bytesOf
+behind-save m k ram rest wall e =
+    ap (drop (length ram)) (append-assoc ram (batteryBytes (clockIn m) wall) rest)
+    ∙ drop-at ram (batteryBytes (clockIn m) wall ++ rest) (length ram) refl
+    ∙ ap (λ (t : Timer). batteryBytes t wall ++ rest) e
+
+stored : (k : Clock) (wall : ℕ) → wall ≤ k .time → timeOf (blockOf k wall) wall ≤ blockOf k wall .time
+unfolding blockOf
+stored k wall h = omega arith
+
+pub way-back : (c d : Cartridge) (k j : Clock) (ram rest : List ℕ) (wall : ℕ) → Timed c k (length ram) → Timed d j (length ram)
+    → wall ≤ k .time → k .time < 2 ^ 64 → Back k (loadOf d (length ram) (bytesOf (c .mapper) ram wall ++ rest) wall)
+way-back c d k j ram rest wall from to h l =
+    let save = bytesOf (c .mapper) ram wall ++ rest in
+    let b = blockOf k wall in
+    let f = clock-fits (c .mapper) k (from .clock) (fit-registers c (from .fit)) in
+    let bytes = behind-save (c .mapper) k ram rest wall (from .clock) in
+    let is : blockIn (drop (length ram) save) ≡ b = ap blockIn bytes ∙ block-back b rest (narrow k wall f l) in
+    let long : length (drop (length ram) save) ≡ 21 + length rest =
+    ap length bytes ∙ length-append (blockBytes b) rest ∙ ap (λ (n : ℕ). n + length rest) (length-block b) in
+    let has : hasClock (clockIn (d .mapper)) ≡ true = ap hasClock (to .clock) in
+    let time = kept-time k wall h in
+    let woken = wokenOf (blockIn (drop (length ram) save)) wall in
+    let r : woken .running ≡ takenOf b = ap (λ (x : Block). wokenOf x wall .running) is ∙ woken-same b wall (stored k wall h) in
+    record {
+      cart = withMapper d (withClock (d .mapper) woken);
+      whole = load-accepts d (length ram) save wall (to .fit) (eq-eqb _ _ (to .lent)) (to .battery)
+          (le-ltb (length save) (length ram) (omega (arith, length-drop (length ram) save, long)))
+          (both-true has (le-leb 21 (length (drop (length ram) save)) (omega (arith, long))))
+          (ap (λ (x : Block). beyond x) is ∙ ap not (taken-registers k wall f))
+          (ap (λ (x : Block). late x wall) is ∙ le-ltb 18446744073709551615 (timeOf b wall) (omega (arith, time)));
+      clock = woken;
+      has = clock-with (d .mapper) woken has;
+      shows = record {
+        second = ap (λ (x : Registers). x .second) r ∙ taken-shows k wall .second;
+        minute = ap (λ (x : Registers). x .minute) r ∙ taken-shows k wall .minute;
+        hour = ap (λ (x : Registers). x .hour) r ∙ taken-shows k wall .hour;
+        day = ap (λ (x : Registers). x .day) r ∙ taken-shows k wall .day;
+      };
+    }
+
+woken-early : (b : Block) (wall : ℕ) → timeOf b wall ≤ 18446744073709551615 → wokenOf b wall .time < 2 ^ 64
+unfolding wokenOf
+woken-early b wall h = omega arith
+
+-- ---- the RAM area
+
+abbrev pub refused : Loaded → Bool
+refused (Whole c) = false
+refused RamOnly = false
+refused (Refuse w) = true
+
+pub load-area : (c : Cartridge) (ram save : List ℕ) (wall : ℕ) → refused (loadOf c (length ram) save wall) ≡ false
+    → areaAfter c ram save wall ≡ take (length ram) save
+unfolding areaAfter
+load-area c ram save wall e = go (loadOf c (length ram) save wall) e
+  where
+    go : (x : Loaded) → refused x ≡ false → areaBy ram save x ≡ take (length ram) save
+    go (Whole d) p = refl
+    go RamOnly p = refl
+    go (Refuse w) p = false≢true (sym p)
+
+pub whole-area : (c d : Cartridge) (ram save : List ℕ) (wall : ℕ) → loadOf c (length ram) save wall ≡ Whole d
+    → areaAfter c ram save wall ≡ take (length ram) save
+whole-area c d ram save wall e = load-area c ram save wall (ap refused e)
+
+pub ram-back : (m : Mapper) (d : Cartridge) (ram area rest : List ℕ) (wall later : ℕ) → length area ≡ length ram
+    → refused (loadOf d (length area) (bytesOf m ram wall ++ rest) later) ≡ false
+    → areaAfter d area (bytesOf m ram wall ++ rest) later ≡ ram
+unfolding bytesOf
+ram-back m d ram area rest wall later n e =
+    load-area d area (bytesOf m ram wall ++ rest) later e
+    ∙ ap (take (length area)) (append-assoc ram (batteryBytes (clockIn m) wall) rest)
+    ∙ take-at ram (batteryBytes (clockIn m) wall ++ rest) (length area) (sym n)
+
+-- ---- read and written again
+
+module _ (c d : Cartridge) (ram save : List ℕ) (wall : ℕ) (e : loadOf c (length ram) save wall ≡ Whole d) where
+  abbrev stands : List ℕ
+  stands = drop (length ram) save
+
+  taken : TakenLoad c d (length ram) save wall
+  taken = load-taken c (length ram) save wall d e
+
+  block-long : 21 ≤ length stands
+  block-long = leb-true 21 (length stands) (both-right (hasClock (clockIn (c .mapper))) _ (taken .block))
+
+  -- what is then written
+  written : bytesOf (d .mapper) (areaAfter c ram save wall) wall
+      ≡ take (length ram) save ++ blockBytes (blockOf (wokenOf (blockIn stands) wall) wall)
+  unfolding bytesOf
+  written =
+      let has = both-left (hasClock (clockIn (c .mapper))) _ (taken .block) in
+      let clock = ap (λ (x : Cartridge). clockIn (x .mapper)) (taken .is) ∙ clock-with (c .mapper) (wokenOf (blockIn stands) wall) has in
+      ap (λ (x : List ℕ). x ++ batteryBytes (clockIn (d .mapper)) wall) (whole-area c d ram save wall e)
+      ∙ ap (λ (t : Timer). take (length ram) save ++ batteryBytes t wall) clock
+
+  pub again-if : Octets save → blockIn stands .time ≡ timeOf (blockIn stands) wall
+      → bytesOf (d .mapper) (areaAfter c ram save wall) wall ≡ take (length ram + 21) save
+  again-if o t =
+      written
+      ∙ ap (λ (b : Block). take (length ram) save ++ blockBytes b) (again-same (blockIn stands) wall t)
+      ∙ ap (λ (x : List ℕ). take (length ram) save ++ x) (bytes-back stands (octets-drop (length ram) save o) block-long)
+      ∙ sym (take-add (length ram) 21 save)
+
+  pub again-only : bytesOf (d .mapper) (areaAfter c ram save wall) wall ≡ take (length ram + 21) save
+      → blockIn stands .time ≡ timeOf (blockIn stands) wall
+  again-only same =
+      let b = blockOf (wokenOf (blockIn stands) wall) wall in
+      let n : length (take (length ram) save) ≡ length ram =
+      length-take-le (length ram) save (ltb-false (length save) (length ram) (taken .long)) in
+      let early = ltb-false 18446744073709551615 (timeOf (blockIn stands) wall) (taken .early) in
+      let fits = woken-fit (blockIn stands) wall (taken .registers) in
+      let bytes : blockBytes b ≡ take 21 stands =
+      sym (drop-at (take (length ram) save) (blockBytes b) (length ram) n)
+      ∙ ap (drop (length ram)) (sym written ∙ same ∙ take-add (length ram) 21 save)
+      ∙ drop-at (take (length ram) save) (take 21 stands) (length ram) n in
+      let is : blockIn stands ≡ b =
+      ap blockIn (sym (take-append-drop 21 stands) ∙ ap (λ (x : List ℕ). x ++ drop 21 stands) (sym bytes))
+      ∙ block-back b (drop 21 stands) (narrow (wokenOf (blockIn stands) wall) wall fits (woken-early (blockIn stands) wall early)) in
+      ap (λ (x : Block). x .time) is ∙ again-time (blockIn stands) wall
+
+-- without a timer only the RAM is kept
+pub again-ram : (c : Cartridge) (ram save : List ℕ) (wall later : ℕ) → hasClock (clockIn (c .mapper)) ≡ false
+    → refused (loadOf c (length ram) save wall) ≡ false → bytesOf (c .mapper) (areaAfter c ram save wall) later ≡ take (length ram) save
+unfolding bytesOf
+again-ram c ram save wall later h e =
+    ap (λ (x : List ℕ). x ++ batteryBytes (clockIn (c .mapper)) later) (load-area c ram save wall e)
+    ∙ none (clockIn (c .mapper)) h
+  where
+    none : (t : Timer) → hasClock t ≡ false → take (length ram) save ++ batteryBytes t later ≡ take (length ram) save
+    none (timer.Clock k) p = false≢true (sym p)
+    none timer.Nothing p = append-nil (take (length ram) save)
+
+-- ---- the bus goes on
+
+pub load-ready : (rom : List ℕ) (m : Machine) (d : Cartridge) (save : List ℕ) (wall : ℕ) → Ready rom m
+    → loadOf (m .cart) (length (m .area)) save wall ≡ Whole d
+    → Ready rom (record { cart = d; area = areaAfter (m .cart) (m .area) save wall })
+load-ready rom m d save wall ready e =
+    let t = load-taken (m .cart) (length (m .area)) save wall d e in
+    record {
+      fit = load-fit (m .cart) d (length (m .area)) save wall e;
+      image = ready .image ∙ sym (ap (λ (x : Cartridge). x .length) (t .is));
+      area = ap length (whole-area (m .cart) d (m .area) save wall e)
+          ∙ length-take-le (length (m .area)) save (ltb-false (length save) (length (m .area)) (t .long))
+          ∙ ready .area ∙ sym (load-area-stays (m .cart) d (length (m .area)) save wall e);
+    }

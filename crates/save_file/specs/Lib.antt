@@ -1,0 +1,3 @@
+pub mod Admit
+pub mod Save
+pub mod Load
