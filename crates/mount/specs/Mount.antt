@@ -1,5 +1,5 @@
 -- Mounting: from an image and a lent RAM area to a cartridge (document 01, "The number of each no" and "The bus").
-use mathlib.Core.Bool.{Bool}
+use mathlib.Core.Bool.{Bool, false}
 use mathlib.Core.List.{List}
 use Prim.Native.Nat.{ℕ}
 use lib.Dec.{eqb}
@@ -16,12 +16,15 @@ use Rattle.mbc1.specs.Registers as mbc1
 use Rattle.mbc2.specs.Registers as mbc2
 use Rattle.mbc3.specs.Registers as mbc3
 use Rattle.mbc5.specs.Registers as mbc5
+use Rattle.mapper.specs.Mappers as mapper
 use Rattle.mapper.specs.declared.Mapper.{Mapper}
 use Rattle.mapper.specs.declared.Mapper.the-variants.{NoMapper, Mbc1, Mbc2, Mbc3, Mbc5}
 use Rattle.cartridge.specs.Fit.{areaOf}
 use Rattle.cartridge.specs.declared.Cartridge.{Cartridge}
 use Rattle.mount.specs.declared.MountRefusal.{MountRefusal}
 use Rattle.mount.specs.declared.MountRefusal.the-variants.{Header, WrongArea}
+use Rattle.mount.specs.declared.Area.{Area}
+use Rattle.mount.specs.declared.Area.the-variants as area
 use Rattle.mount.specs.declared.Mounted.{Mounted}
 use Rattle.mount.specs.declared.Mounted.the-variants.{To, Refuse}
 
@@ -50,6 +53,17 @@ cartOf d n wall =
       battery = d .battery;
       mapper = startOf (d .kind) (d .multicart) wall;
     }
+
+-- "RAM area: the header's size, for MBC2 512 bytes more.", asked before there is a cartridge
+abbrev pub areaIn : Kind → ℕ → ℕ
+areaIn k size = mapper.areaOf (startOf k false 0) size
+
+abbrev pub askedBy : Checked → Area
+askedBy (checked.Accept d) = area.Bytes (areaIn (d .kind) (d .size))
+askedBy (checked.Refuse w) = area.Refuse w
+
+unfoldable pub areaFor : List ℕ → Area
+areaFor image = askedBy (header.checkOf image)
 
 -- "Mounting checks 1 to 12 in order": the header's numbers, then "lent RAM area of wrong length"
 abbrev pub mountBy : Checked → ℕ → ℕ → ℕ → Mounted

@@ -1,7 +1,8 @@
 // Mounting: the verdict on an image, the length of the lent RAM area, and the cartridge at its start.
 ghost use mathlib.Core.Path.{_≡_};
+ghost use Prim.Native.Nat.{_≤_};
 ghost use lib.ListN.{length, replicate};
-ghost use Rattle.mount.specs.Mount.{numberOf, startOf, cartOf, mountOf, areaAfter};
+ghost use Rattle.mount.specs.Mount.{numberOf, startOf, cartOf, areaIn, areaFor, mountOf, areaAfter};
 use cartridge::Cartridge;
 use header::Checked;
 use header::Facts;
@@ -25,6 +26,12 @@ pub enum Mounted {
     Refuse(MountRefusal),
 }
 
+// How long a RAM area an image asks for, or why it is no image.
+pub enum Area {
+    Bytes(usize),
+    Refuse(HeaderRefusal),
+}
+
 impl MountRefusal {
     pub fn number(self) -> u8
         ensures { λ r. ⌜ r ≡ numberOf self ⌝ }
@@ -33,6 +40,36 @@ impl MountRefusal {
             MountRefusal::Header(why) => why.number(),
             MountRefusal::WrongArea => 12,
         }
+    }
+}
+
+// MBC2's half-bytes stand behind the header's RAM.
+fn area_of(kind: Kind, size: usize) -> usize
+    requires { ⌜ size ≤ 0x20000 ⌝ }
+    ensures { λ r. ⌜ r ≡ areaIn kind size ⌝ }
+{
+    match kind {
+        Kind::NoMapper => size,
+        Kind::Mbc1 => size,
+        Kind::Mbc2 => size + 512,
+        Kind::Mbc3 { timer: _ } => size,
+        Kind::Mbc5 { rumble: _ } => size,
+        Kind::Mmm01 => size,
+        Kind::Mbc6 => size,
+        Kind::Mbc7 => size,
+    }
+}
+
+// The length of the RAM area that mounting this image asks for.
+pub fn ask_area(image: &[u8]) -> Area
+    ensures { λ r. ⌜ r ≡ areaFor (now (image .entry)) ⌝ }
+{
+    match header::check(image) {
+        Checked::Accept(facts) => {
+            let kind = facts.kind;
+            Area::Bytes(area_of(kind, facts.size))
+        }
+        Checked::Refuse(why) => Area::Refuse(why),
     }
 }
 

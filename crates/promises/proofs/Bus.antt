@@ -38,6 +38,7 @@ use Rattle.cartridge.specs.declared.Cartridge.{Cartridge}
 use Rattle.cartridge.proofs.Laws.{fit-banks, fit-padded}
 use Rattle.mount.specs.Mount as mount
 use Rattle.mount.specs.Mount.{cartOf, mountOf}
+use Rattle.mount.specs.declared.Area.the-variants as area
 use Rattle.mount.specs.declared.MountRefusal.{MountRefusal}
 use Rattle.mount.specs.declared.MountRefusal.the-variants.{Header, WrongArea}
 use Rattle.mount.specs.declared.Mounted.{Mounted}
@@ -110,6 +111,11 @@ unfolding mountOf
 mount-gives-cartridge image ram wall d e h =
     ap (λ x. mount.mountBy x (length image) (length ram) wall) e
     ∙ ap (λ (t : Bool). pick t (mounted.To (cartOf d (length image) wall)) (mounted.Refuse WrongArea)) h
+
+-- An image that is lent the area that `mount::ask_area` asks for is mounted.
+pub asked-area-mounts : (image ram : List ℕ) (wall : ℕ) (d : Facts) → header.checkOf image ≡ checked.Accept d
+    → mount.areaFor image ≡ area.Bytes (length ram) → mountOf image ram wall ≡ mounted.To (cartOf d (length image) wall)
+asked-area-mounts = laws.asked-mounts
 
 -- A refused call changes no byte of the RAM area; it hands back no state, so the caller's stays.
 pub refused-write-changes-nothing : (c : Cartridge) (ram : List ℕ) (addr byte : ℕ) (w : BusRefusal)

@@ -35,7 +35,9 @@ use Rattle.window.specs.declared.Way.the-variants.{Bytes, Half, Timer}
 use Rattle.cartridge.specs.Fit.{bankCounts, fitBoard, fitCart, areaOf}
 use Rattle.cartridge.specs.declared.Cartridge.{Cartridge}
 use Rattle.cartridge.proofs.Laws.{fit-board, fit-registers}
-use Rattle.mount.specs.Mount.{cartOf, mountBy, mountOf}
+use Rattle.mount.specs.Mount.{cartOf, areaIn, askedBy, areaFor, mountBy, mountOf}
+use Rattle.mount.specs.declared.Area.the-variants as area
+use Rattle.mount.proofs.Laws.{asked-is-area}
 use Rattle.mount.specs.declared.MountRefusal.the-variants.{WrongArea}
 use Rattle.mount.specs.declared.Mounted.the-variants as mounted
 use Rattle.access.specs.Verdict.{inRom, noes, verdictOf}
@@ -257,3 +259,17 @@ register-area c ram addr byte h =
 pub one-length : (s t : List ℕ) → AtMostOne s t → length t ≡ length s
 one-length s t (inl e) = ap length e
 one-length s t (inr p) = ap length (p .is) ∙ length-set s (p .place) (p .byte)
+
+-- ---- the area that is asked for
+
+pub asked-mounts : (image ram : List ℕ) (wall : ℕ) (d : Facts) → checkOf image ≡ checked.Accept d
+    → areaFor image ≡ area.Bytes (length ram) → mountOf image ram wall ≡ mounted.To (cartOf d (length image) wall)
+unfolding mountOf areaFor cartOf
+asked-mounts image ram wall d e asked =
+    let n : areaIn (d .kind) (d .size) ≡ length ram = bytes-same (sym (ap askedBy e) ∙ asked) in
+    ap (λ (x : Checked). mountBy x (length image) (length ram) wall) e
+    ∙ ap (λ (t : Bool). pick t (mounted.To (cartOf d (length image) wall)) (mounted.Refuse WrongArea))
+    (eq-eqb _ _ (sym n ∙ asked-is-area (d .kind) (d .multicart) wall (d .size)))
+  where
+    bytes-same : {m n : ℕ} → area.Bytes m ≡ area.Bytes n → m ≡ n
+    bytes-same p = cc
