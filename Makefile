@@ -8,7 +8,7 @@ DIR ?= crates/replay/data
 # busy: the wrong programs go in rounds that wait for their slowest.
 test: kit
 	@ulimit -S -s 65536 2>/dev/null || ulimit -S -s 16384 2>/dev/null || { \
-	  echo "The stack cannot be raised to 16 MiB: 'ulimit -H -s' says $$(ulimit -H -s) KiB. The programs large_vectors and bus_vectors need more than 8192."; \
+	  echo "The stack cannot be raised to 16 MiB: 'ulimit -H -s' says $$(ulimit -H -s) KiB. The programs large_vectors, bus_vectors and save_vectors need more than 8192."; \
 	  exit 1; }; \
 	RT_JOBS=$${RT_JOBS:-4} rt ci
 

@@ -9,7 +9,6 @@ mod directed;
 use bus_recipe::build;
 use bus_recipe::draw;
 use cartridge::Cartridge;
-use libc::STDOUT_FILENO;
 use mount::Mounted;
 
 // A case: the RAM area's length in units of 512 bytes, the image's length, and its type byte, ROM code and RAM code, which are
@@ -62,43 +61,18 @@ const REFUSED_CASES: [u64; 4] = [
     0x0041_200000_10_06_03,
 ];
 
-fn folded(s: u64, b: u8) -> u64 {
-    (s % 0x1_0000_0000 * 31 + b as u64) % 0x1_0000_0000
-}
-
-// Each byte of the area counts with its place.
-fn sum(ram: &[u8]) -> u64 {
-    let mut s: u64 = 0;
-    let mut i: usize = 0;
-    while i < ram.len() {
-        s = folded(s, ram[i]);
-        i += 1;
-    }
-    s
-}
-
-// The cartridge that was mounted: length, type byte, banks, RAM size.
-fn heading(cart: Cartridge, codes: u32) {
-    io::write_all(STDOUT_FILENO, b"M");
-    bus_lines::field(cart.length as u64);
-    bus_lines::field((codes / 65536 % 256) as u64);
-    bus_lines::field(cart.banks as u64);
-    bus_lines::field(cart.size as u64);
-    io::write_all(STDOUT_FILENO, b"\n");
-}
-
 fn played(start: Cartridge, rom: &[u8], ram: &mut [u8], codes: u32, table: &[u32]) {
     let begun = bus_lines::each(start, rom, ram, &directed::START);
     let directed = bus_lines::each(begun, rom, ram, table);
     bus_lines::each(directed, rom, ram, &draw::codes(codes));
-    bus_lines::number(b'S', sum(ram));
+    bus_lines::number(b'S', bus_lines::sum(ram));
 }
 
 // At wall time 7, which no access shows.
 fn mounted(rom: &[u8], ram: &mut [u8], codes: u32, table: &[u32]) {
     match mount::mount(rom, ram, 7) {
         Mounted::To(cart) => {
-            heading(cart, codes);
+            bus_lines::heading(cart, codes);
             played(cart, rom, ram, codes, table);
         }
         Mounted::Refuse(why) => bus_lines::number(b'N', why.number() as u64),

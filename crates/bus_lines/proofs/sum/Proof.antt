@@ -1,16 +1,16 @@
--- `bus_vectors::sum` meets its contract: it ends. Assumes nothing.
+-- `bus_lines::sum` meets its contract: it ends. Assumes nothing.
 use borrow.Author.Needs.{needs}
-use Rattle.bus_vectors.proofs.sum.Statement.{statement}
-use Rattle.bus_vectors.proofs.sum.Tie as tie
+use Rattle.bus_lines.proofs.sum.Statement.{statement}
+use Rattle.bus_lines.proofs.sum.Tie as tie
 use Prim.Native.Nat.{_-_, _≤_}
 use native.Mathlib.Omega.{arith}
 use lib.ListN.{length}
 
 abbrev Inv-loop : tie.InvT-loop
-Inv-loop ram s₀ i₀ s i = i ≤ length ram
+Inv-loop bytes s₀ i₀ s i = i ≤ length bytes
 
 abbrev μ-loop : tie.MeasureT-loop
-μ-loop ram s₀ i₀ s i = length ram - i
+μ-loop bytes s₀ i₀ s i = length bytes - i
 
 loop-holds : tie.Need-loop-holds Inv-loop μ-loop
 loop-holds c = omega arith

@@ -1,0 +1,48 @@
+-- `bus_lines::hex` meets its contract: it ends. Assumes nothing.
+use borrow.Author.Needs.{needs}
+use Rattle.bus_lines.proofs.hex.Statement.{statement}
+use Rattle.bus_lines.proofs.hex.Tie as tie
+use Prim.Native.Nat.{_-_, _≤_}
+use native.Mathlib.Omega.{arith}
+use lib.ListN.{length}
+
+abbrev Inv-loop : tie.InvT-loop
+Inv-loop bytes i₀ i = i ≤ length bytes
+
+abbrev μ-loop : tie.MeasureT-loop
+μ-loop bytes i₀ i = length bytes - i
+
+loop-holds : tie.Need-loop-holds Inv-loop μ-loop
+loop-holds c = omega arith
+
+shared-slice-read-pair : tie.Need-shared-slice-read-pair Inv-loop μ-loop
+shared-slice-read-pair c = omega arith
+
+pair-requires : tie.Need-pair-requires Inv-loop μ-loop
+pair-requires c κs = search needs
+
+add-i : tie.Need-add-i Inv-loop μ-loop
+add-i c = omega arith
+
+loop-less : tie.Need-loop-less Inv-loop μ-loop
+loop-less c = omega arith
+
+loop-again : tie.Need-loop-again Inv-loop μ-loop
+loop-again c = omega arith
+
+returns : tie.Need-returns Inv-loop μ-loop
+returns c = search needs
+
+pub hex-spec : {M : Type 1} → statement M
+hex-spec =
+    tie.close
+    (tie.spec
+    Inv-loop
+    μ-loop
+    loop-holds
+    shared-slice-read-pair
+    pair-requires
+    add-i
+    loop-less
+    loop-again
+    returns)
