@@ -1,0 +1,379 @@
+-- Access by access: the original does not panic, gives the byte that we give, and its state stays the one that goes with ours.
+-- Assumes nothing.
+use mathlib.Core.Bool.{Bool, true, false, not}
+use mathlib.Core.List.{List, [], _∷_, _++_}
+use mathlib.Core.Path.{_≡_, refl, sym, ap, _∙_, subst}
+use Prim.Native.Nat.{ℕ, zero, suc, _+_, _*_, _%_, _<_, _≤_}
+use native.Mathlib.Omega.{arith}
+use lib.Dec.{eqb, ltb}
+use lib.ListN.{length, getD, set, take, drop, take-append-drop}
+use lib.Seq.{getD-set-same, getD-set-other, set-out}
+use borrow.Author.Tests.{eqb-true, eqb-false, eq-eqb, ltb-true, ltb-false, leb-true}
+use Rattle.facts.specs.Choice.{pick, both, either}
+use Rattle.facts.specs.Listed.{oneOf}
+use Rattle.facts.proofs.ChoiceLaws.{both-true, both-parts, not-true, pick-has}
+use Rattle.facts.proofs.ListLaws.{part-set}
+use Rattle.banking.specs.Banks.{romPlace}
+use Rattle.banking.specs.declared.RamAt.the-variants as at
+use Rattle.banking.proofs.Laws.{rom-inside}
+use Rattle.image.specs.Image.{byteAt, paddedLength}
+use Rattle.header.specs.Size.{ramSizes}
+use Rattle.mbc2.specs.Registers as our2
+use Rattle.mbc2.specs.declared.Mbc2 as declared2
+use Rattle.clock.specs.declared.AdvanceRefusal.the-variants as late
+use Rattle.mapper.specs.Mappers as mapper
+use Rattle.mapper.specs.declared.Mapper.{Mapper}
+use Rattle.window.specs.Window as window
+use Rattle.window.specs.declared.Way.{Way}
+use Rattle.window.specs.declared.Way.the-variants.{Bytes, Half, Timer}
+use Rattle.cartridge.specs.Fit.{bankCounts, fitBoard, fitCart}
+use Rattle.cartridge.specs.With.{withMapper}
+use Rattle.cartridge.specs.declared.Cartridge as our
+use Rattle.cartridge.proofs.Laws.{fit-board, fit-registers, fit-banks, fit-padded}
+use Rattle.access.specs.Verdict.{inRom, inRam, verdictOf}
+use Rattle.access.specs.declared.BusRefusal.the-variants.{BadAddress}
+use Rattle.access.specs.declared.Verdict.{Verdict}
+use Rattle.access.specs.declared.Verdict.the-variants.{Rom, Ram, Refuse}
+use Rattle.access.proofs.Laws.{by-tests}
+use Rattle.bus.specs.Bus.{lentBoth, lentArea, readVerdict, writeVerdict, romByte, readBy, readOf, writeBy, writeOf, areaBy, areaAfter}
+use Rattle.bus.specs.Advance.{advanceOf}
+use Rattle.bus.specs.Run as run
+use Rattle.bus.specs.Run.{Access, Machine, afterRead, afterWrite, afterClocks, stepOf, runOf}
+use Rattle.bus.specs.declared.Advanced.the-variants as advanced
+use Rattle.promises.specs.Calls.{Ready, Octet}
+use Rattle.promises.specs.Calls as calls
+use Rattle.promises.proofs.ImageLaws.{padded-length, padded-byte}
+use Rattle.promises.proofs.RunLaws.{run-ready}
+use Rattle.original.specs.Machine.{Outcome, ok, panic, bind, index}
+use Rattle.original.specs.MappingResult.{Mapped, mapped}
+use Rattle.original.specs.Mapper as original
+use Rattle.original.specs.Cartridge as cartridge
+use Rattle.original.specs.Cartridge.{Cartridge, Read, readAt, writeAt, readRom0, readRomx, writeToBankController, readRam, writeRam, clockMapper}
+use Rattle.original.specs.Same.{Same, Fit, Octets}
+use Rattle.original.specs.Step.{Left, left, clocksOf, originalStep, Ran, originalRun}
+use Rattle.original.specs.Domain.{Since, sinceAfter, Allowed, InDomain}
+use Rattle.original.proofs.MachineLaws.{index-ok, inside, outside, arm-cases}
+use Rattle.original.proofs.MapperLaws.{rom0-same, romx-same, register-same, read-same, write-same, mapperClocks, clocks-same, past-write, past-rom, early}
+
+-- ---- bytes stay bytes
+
+pub octets-set : (s : List ℕ) (k v : ℕ) → Octets s → v < 256 → Octets (set s k v)
+octets-set s k v o h i = go (eqb i k) (ltb k (length s)) refl refl
+  where
+    go : (t u : Bool) → eqb i k ≡ t → ltb k (length s) ≡ u → getD (set s k v) i 0 < 256
+    go false u e f = rw (getD-set-other s k i v 0 (eqb-false i k e)) (o i)
+    go true true e f = rw (eqb-true i k e, getD-set-same s k v 0 (ltb-true k (length s) f)) h
+    go true false e f = rw (set-out s k v (ltb-false k (length s) f)) (o i)
+
+half-octets : (m : declared2.Mbc2) (size : ℕ) (area : List ℕ) (addr byte : ℕ) → Octets area
+    → Octets (take size area ++ our2.halfAfter m (drop size area) addr byte)
+unfolding our2.halfAfter
+half-octets m size area addr byte o =
+    pick-has (λ (x : List ℕ). Octets (take size area ++ x)) (m .enabled)
+    (subst Octets (sym (part-set size area (addr % 512) (byte % 16)))
+    (octets-set area (size + addr % 512) (byte % 16) o (omega arith)))
+    (subst Octets (sym (take-append-drop size area)) o)
+
+way-octets : (w : Way) (size : ℕ) (area : List ℕ) (addr byte : ℕ) → Octets area → byte < 256
+    → Octets (window.areaBy w size area addr byte)
+way-octets (Bytes (at.At i)) size area addr byte o h = octets-set area i byte o h
+way-octets (Bytes at.NotMapped) size area addr byte o h = o
+way-octets (Half m) size area addr byte o h = half-octets m size area addr byte o
+way-octets (Timer m) size area addr byte o h = o
+
+window-octets : (m : Mapper) (size : ℕ) (area : List ℕ) (addr byte : ℕ) → Octets area → byte < 256
+    → Octets (window.areaAfter m size area addr byte)
+unfolding window.areaAfter
+window-octets m size area addr byte o h = way-octets (window.wayOf m size addr) size area addr byte o h
+
+-- ---- what a ready machine knows
+
+fit-of : {rom : List ℕ} {past : Since} {m : Machine} {o : Cartridge} → Ready rom m → Same rom past m o
+    → Fit (m .cart .banks) (m .cart .size) (m .area) (m .cart .mapper)
+unfolding fitBoard
+fit-of {m = m} r s =
+    let c = m .cart in
+    let board = both-parts (both (oneOf (c .banks) bankCounts) (eqb (paddedLength (c .length)) (c .banks * 0x4000))) _
+    (fit-board c (r .fit)) in
+    let ram = both-parts (oneOf (c .size) ramSizes) _ (board .1) in
+    record {
+      banked = fit-banks c (r .fit);
+      sized = ram .0;
+      held = ram .1;
+      registers = fit-registers c (r .fit);
+      long = r .area;
+      octets = s .octets;
+    }
+
+-- the verdict on an access in the windows
+window-of : (c : our.Cartridge) (lent : Bool) (addr : ℕ) (bad : Bool) → fitCart c ≡ true → lent ≡ true → bad ≡ false
+    → either (inRom addr) (inRam addr) ≡ true → verdictOf c lent addr bad ≡ pick (inRom addr) Rom Ram
+window-of c lent addr bad f l b w =
+    sym (by-tests c lent addr bad f l refl refl b)
+    ∙ ap (λ (t : Bool). pick (not t) (Refuse BadAddress) (pick (inRom addr) Rom Ram)) w
+
+-- a byte of the padded image
+module _ {image : List ℕ} {past : Since} {m : Machine} {o : Cartridge} (r : Ready image m) (s : Same image past m o) where
+  rom-long : length (o .rom) ≡ m .cart .banks * 0x4000
+  rom-long =
+      ap length (s .rom) ∙ padded-length image ∙ ap paddedLength (r .image)
+      ∙ eqb-true _ _ (fit-padded (m .cart) (r .fit))
+
+  rom-byte : (bank addr : ℕ)
+      → index (o .rom) (romPlace (m .cart .banks) bank addr) ≡ ok (byteAt image (romPlace (m .cart .banks) bank addr))
+  rom-byte bank addr =
+      let place = romPlace (m .cart .banks) bank addr in
+      index-ok (o .rom) place (omega (arith, rom-long, rom-inside (m .cart .banks) bank addr (fit-banks (m .cart) (r .fit))))
+      ∙ ap (λ (x : List ℕ). ok (getD x place 0)) (s .rom) ∙ ap ok (padded-byte image place)
+
+-- ---- one access
+
+-- the original's answer to an access is x's, and what it leaves goes with what x leaves
+pub record Stepped (image : List ℕ) (past : Since) (o : Cartridge) (a : Access) (x : run.Left) : Type 0 where
+  pub next : Cartridge
+  pub is : originalStep o a ≡ ok (left (x .answer) next)
+  pub same : Same image past (x .left) next
+
+module _ {image : List ℕ} {past : Since} {m : Machine} {o : Cartridge} (r : Ready image m) (s : Same image past m o) where
+  abbrev board : our.Cartridge
+  board = m .cart
+
+  known : Fit (board .banks) (board .size) (m .area) (board .mapper)
+  known = fit-of r s
+
+  -- a read below 0x8000
+  rom-read : (addr : ℕ) → addr < 0x8000 → originalStep o (run.reads addr) ≡ ok (left (run.gave (romByte board image addr)) o)
+  unfolding readRom0 readRomx mapper.bankAt
+  rom-read addr h =
+      let f : ℕ → Outcome Left = λ bank. ok (left (run.gave (byteAt image (romPlace (board .banks) bank addr))) o) in
+      let gives : Outcome ℕ → Outcome Left = λ x. bind x (λ b. ok (left (run.gave b) o)) in
+      let at-place : Outcome ℕ → Outcome Left = λ x. gives (bind x (λ i. index (o .rom) i)) in
+      arm-cases f 0x0000 0x3FFF addr (omega arith)
+      (λ low.
+      ap at-place (rom0-same (board .mapper) (o .mapper) past known (s .mapper) addr (omega arith))
+      ∙ ap gives (rom-byte r s (mapper.bank0 (board .mapper)) addr))
+      (λ high.
+      rw (inside 0x4000 0x7FFF addr (omega arith) (omega arith))
+      (ap at-place (romx-same (board .mapper) (o .mapper) past known (s .mapper) addr (omega arith) h)
+      ∙ ap gives (rom-byte r s (mapper.bankX (board .mapper)) addr)))
+
+  -- and one of the window
+  ram-read : (addr : ℕ) → 0xA000 ≤ addr → addr ≤ 0xBFFF
+      → Stepped image (sinceAfter (board .mapper) past (run.reads addr)) o (run.reads addr)
+      (record { answer = run.gave (window.readOf (board .mapper) (board .size) (m .area) addr); left = m })
+  unfolding readRam
+  ram-read addr l h =
+      let x = read-same (board .mapper) (o .mapper) past known (s .mapper) addr (inside 0xA000 0xBFFF addr l h) in
+      let reads : Mapped original.Mapper → Outcome ℕ → Outcome Read =
+      λ y b. bind b (λ byte. ok (record { self = cartridge.withMapper o (y .0); byte = byte })) in
+      let is : readRam o addr ≡ ok
+      (record { self = cartridge.withMapper o (x .next); byte = window.readOf (board .mapper) (board .size) (m .area) addr }) =
+      ap (λ (y : Outcome (Mapped original.Mapper)). bind y (λ z. reads z (readAt (o .ram) (z .1)))) (x .is)
+      ∙ ap (λ (ram : List ℕ). reads (mapped (x .next) (x .result)) (readAt ram (x .result))) (s .ram)
+      ∙ ap (reads (mapped (x .next) (x .result))) (x .byte) in
+      record {
+        next = cartridge.withMapper o (x .next);
+        is =
+            rw (
+              outside 0x0000 0x3FFF addr (omega arith),
+              outside 0x4000 0x7FFF addr
+                  (omega arith),
+              inside 0xA000 0xBFFF addr l h,
+            )
+            (ap (λ (y : Outcome Read). bind y (λ z. ok (left (run.gave (z .byte)) (z .self)))) is);
+        same = record { rom = s .rom; ram = s .ram; octets = s .octets; mapper = x .same };
+      }
+
+  -- a register write
+  rom-write : (addr byte : ℕ) → byte < 256 → addr < 0x8000
+      → Allowed (board .mapper) past (run.writes addr byte) (mapper.written (board .mapper) addr byte)
+      → Stepped image past o (run.writes addr byte)
+      (record {
+        answer = run.took;
+        left = record { cart = withMapper board (mapper.written (board .mapper) addr byte); area = m .area };
+      })
+  unfolding writeToBankController
+  rom-write addr byte b h d =
+      let x = register-same (board .mapper) (o .mapper) past known (s .mapper) addr byte h b d in
+      record {
+        next = cartridge.withMapper o (x .next);
+        is =
+            rw (inside 0x0000 0x7FFF addr (omega arith) (omega arith))
+            (ap (λ (y : Outcome original.Mapper). bind (bind y (λ z. ok (cartridge.withMapper o z)))
+            (λ d. ok (left run.took d))) (x .is));
+        same = record { rom = s .rom; ram = s .ram; octets = s .octets; mapper = x .same };
+      }
+
+  -- a write to the window
+  ram-write : (addr byte : ℕ) → byte < 256 → 0xA000 ≤ addr → addr ≤ 0xBFFF
+      → Allowed (board .mapper) past (run.writes addr byte) (window.mapperAfter (board .mapper) (board .size) addr byte)
+      → Stepped image past o (run.writes addr byte)
+      (record {
+        answer = run.took;
+        left =
+            record {
+              cart = withMapper board (window.mapperAfter (board .mapper) (board .size) addr byte);
+              area = window.areaAfter (board .mapper) (board .size) (m .area) addr byte;
+            };
+      })
+  unfolding writeRam
+  ram-write addr byte b l h d =
+      let x = write-same (board .mapper) (o .mapper) past known (s .mapper) addr byte (inside 0xA000 0xBFFF addr l h) b d in
+      let after = window.areaAfter (board .mapper) (board .size) (m .area) addr byte in
+      let stores : Mapped original.Mapper → Outcome (List ℕ) → Outcome Cartridge =
+      λ y ram. bind ram (λ z. ok (cartridge.withRam o (y .0) z)) in
+      let is : writeRam o addr byte ≡ ok (cartridge.withRam o (x .next) (take (board .size) after)) =
+      ap (λ (y : Outcome (Mapped original.Mapper)). bind y (λ z. stores z (writeAt (o .ram) (z .1) byte))) (x .is)
+      ∙ ap (λ (ram : List ℕ). stores (mapped (x .next) (x .result)) (writeAt ram (x .result) byte)) (s .ram)
+      ∙ ap (stores (mapped (x .next) (x .result))) (x .ram) in
+      record {
+        next = cartridge.withRam o (x .next) (take (board .size) after);
+        is =
+            rw (outside 0x0000 0x7FFF addr (omega arith), inside 0xA000 0xBFFF addr l h)
+            (ap (λ (y : Outcome Cartridge). bind y (λ d. ok (left run.took d))) is);
+        same =
+            record {
+              rom = s .rom;
+              ram = refl;
+              octets = window-octets (board .mapper) (board .size) (m .area) addr byte (s .octets) b;
+              mapper = x .same;
+            };
+      }
+
+  -- clocks: those of the mapper, in the cartridge
+  cart-clocks : (n : ℕ) → clocksOf n o ≡ bind (mapperClocks n (o .mapper)) (λ x. ok (cartridge.withMapper o x))
+  unfolding clocksOf clockMapper
+  cart-clocks zero = refl
+  cart-clocks (suc n) =
+      ap (λ (y : Outcome Cartridge). bind y clockMapper) (cart-clocks n) ∙ go (mapperClocks n (o .mapper))
+    where
+      go : (y : Outcome original.Mapper) → bind (bind y (λ x. ok (cartridge.withMapper o x))) clockMapper
+          ≡ bind (bind y original.clock) (λ x. ok (cartridge.withMapper o x))
+      go (ok y) = refl
+      go panic = refl
+
+  clocks : (n : ℕ) → Allowed (board .mapper) past (run.clocks n) (mapper.clocksOn (board .mapper) n)
+      → Stepped image (sinceAfter (board .mapper) past (run.clocks n)) o (run.clocks n)
+      (record {
+        answer = run.took;
+        left = record
+            { cart = withMapper board (mapper.clocksOn (board .mapper) n); area = m .area };
+      })
+  clocks n d =
+      let x = clocks-same (board .mapper) (o .mapper) past known (s .mapper) n d in
+      record {
+        next = cartridge.withMapper o (x .next);
+        is =
+            ap (λ (y : Outcome Cartridge). bind y (λ d. ok (left run.took d))) (cart-clocks n)
+            ∙ ap (λ (y : Outcome original.Mapper). bind (bind y (λ z. ok (cartridge.withMapper o z)))
+            (λ d. ok (left run.took d))) (x .is);
+        same = record { rom = s .rom; ram = s .ram; octets = s .octets; mapper = x .same };
+      }
+
+-- ---- our own step, in the windows
+
+module _ {image : List ℕ} {m : Machine} (r : Ready image m) where
+  lent : lentBoth (m .cart) (length image) (length (m .area)) ≡ true
+  lent = both-true (eq-eqb _ _ (r .image)) (eq-eqb _ _ (r .area))
+
+  read-step : (addr : ℕ) → either (inRom addr) (inRam addr) ≡ true
+      → stepOf image m (run.reads addr) ≡ afterRead m (readBy (m .cart) image (m .area) addr (pick (inRom addr) Rom Ram))
+  unfolding readOf readVerdict
+  read-step addr w =
+      ap (λ (v : Verdict). afterRead m (readBy (m .cart) image (m .area) addr v))
+      (window-of (m .cart) (lentBoth (m .cart) (length image) (length (m .area))) addr false (r .fit) lent refl w)
+
+  write-step : (addr byte : ℕ) → either (inRom addr) (inRam addr) ≡ true → mapper.badSelection
+      (m .cart .mapper) addr byte ≡ false
+      → stepOf image m (run.writes addr byte)
+      ≡ afterWrite m (writeBy (m .cart) addr byte (pick (inRom addr) Rom Ram))
+      (areaBy (m .cart) (m .area) addr byte (pick (inRom addr) Rom Ram))
+  unfolding writeOf writeVerdict areaAfter
+  write-step addr byte w b =
+      ap (λ (v : Verdict). afterWrite m (writeBy (m .cart) addr byte v) (areaBy (m .cart) (m .area) addr byte v))
+      (window-of (m .cart) (lentArea (m .cart) (length (m .area))) addr (mapper.badSelection (m .cart .mapper) addr byte)
+      (r .fit)
+      (eq-eqb _ _ (r .area)) b w)
+
+  clock-step : (n : ℕ) → mapper.late (m .cart .mapper) n ≡ false
+      → stepOf image m (run.clocks n) ≡ afterClocks m (advanced.To (withMapper (m .cart) (mapper.clocksOn (m .cart .mapper) n)))
+  unfolding advanceOf
+  clock-step n e = rw (r .fit, e)
+
+-- ---- the theorem
+
+-- what an access leaves of the history
+abbrev pub later : Machine → Since → Access → Since
+later m past a = sinceAfter (m .cart .mapper) past a
+
+pub step-same : {image : List ℕ} {past : Since} {m : Machine} {o : Cartridge} → Ready image m → Same image past m o
+    → (a : Access) → Octet a → Allowed (m .cart .mapper) past a (stepOf image m a .left .cart .mapper)
+    → Stepped image (later m past a) o a (stepOf image m a)
+step-same {image} {past} {m} {o} r s (run.reads addr) b d =
+    subst (Stepped image (later m past (run.reads addr)) o (run.reads addr)) (sym (read-step r addr (d .address)))
+    (go (inRom addr) refl (d .address))
+  where
+    go : (t : Bool) → inRom addr ≡ t → either t (inRam addr) ≡ true
+        → Stepped image (later m past (run.reads addr)) o (run.reads addr)
+        (afterRead m (readBy (m .cart) image (m .area) addr (pick t Rom Ram)))
+    go true e v =
+        let h : addr ≤ 0x7FFF = leb-true addr 0x7FFF e in
+        record {
+          next = o;
+          is = rom-read r s addr (omega arith);
+          same = subst (λ (x : Since). Same image x m o) (sym (past-rom (m .cart .mapper) past addr (omega arith))) s;
+        }
+    go false e v =
+        let p = both-parts _ _ v in ram-read r s addr (leb-true 0xA000 addr (p .0)) (leb-true addr 0xBFFF (p .1))
+step-same {image} {past} {m} {o} r s (run.writes addr byte) b d =
+    let e = write-step r addr byte (d .address) (not-true _ (d .selection)) in
+    subst (Stepped image (later m past (run.writes addr byte)) o (run.writes addr byte)) (sym e)
+    (subst (λ (x : Since). Stepped image x o (run.writes addr byte) (wrote (inRom addr)))
+    (sym (past-write (m .cart .mapper) past addr byte))
+    (go (inRom addr) refl (d .address)
+    (subst (λ (x : run.Left). Allowed (m .cart .mapper) past (run.writes addr byte) (x .left .cart .mapper)) e d)))
+  where
+    wrote : Bool → run.Left
+    wrote t =
+        afterWrite m (writeBy (m .cart) addr byte (pick t Rom Ram))
+        (areaBy (m .cart) (m .area) addr byte (pick t Rom Ram))
+
+    go : (t : Bool) → inRom addr ≡ t → either t (inRam addr) ≡ true
+        → Allowed (m .cart .mapper) past (run.writes addr byte) (wrote t .left .cart .mapper)
+        → Stepped image past o (run.writes addr byte) (wrote t)
+    go true e v a =
+        let h : addr ≤ 0x7FFF = leb-true addr 0x7FFF e in rom-write r s addr byte b (omega arith) a
+    go false e v a =
+        let p = both-parts _ _ v in ram-write r s addr byte b (leb-true 0xA000 addr (p .0)) (leb-true addr 0xBFFF (p .1)) a
+step-same {image} {past} {m} {o} r s (run.clocks n) b d =
+    let e = clock-step r n (early (m .cart .mapper) past n (d .time)) in
+    subst (Stepped image (later m past (run.clocks n)) o (run.clocks n)) (sym e)
+    (clocks r s n (subst (λ (x : run.Left). Allowed (m .cart .mapper) past (run.clocks n) (x .left .cart .mapper)) e d))
+
+-- ---- and of lists of accesses
+
+pub record RanSame (image : List ℕ) (m : Machine) (o : Cartridge) (as′ : List Access) : Type 0 where
+  pub past : Since
+  pub next : Cartridge
+  pub is : originalRun o as′ ≡ ok (record { answers = runOf image m as′ .answers; left = next })
+  pub same : Same image past (runOf image m as′ .left) next
+
+pub run-same : {image : List ℕ} {past : Since} {m : Machine} {o : Cartridge} → Ready image m → Same image past m o
+    → (as′ : List Access)
+    → calls.Octets as′ → InDomain image m past as′ → RanSame image m o as′
+unfolding originalRun
+run-same {past = past} {o = o} r s [] b d = record { past = past; next = o; is = refl; same = s }
+run-same {image} {past} {m} {o} r s (a ∷ as′) b d =
+    let x = step-same r s a (b .0) (d .0) in
+    let y = run-same (run-ready image m (a ∷ []) r (b .0, tt)) (x .same) as′ (b .1) (d .1) in
+    let rest : Left → Outcome Ran = λ l. bind (originalRun (l .left) as′)
+    (λ z. ok (record { answers = l .answer ∷ z .answers; left = z .left })) in
+    record {
+      past = y .past;
+      next = y .next;
+      is =
+          ap (λ (l : Outcome Left). bind l rest) (x .is)
+          ∙ ap (λ (z : Outcome Ran). bind z
+          (λ z. ok (record { answers = stepOf image m a .answer ∷ z .answers; left = z .left }))) (y .is);
+      same = y .same;
+    }

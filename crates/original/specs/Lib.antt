@@ -1,0 +1,17 @@
+pub mod Machine
+pub mod MappingResult
+pub mod NoMapper
+pub mod Mbc1
+pub mod Mbc2
+pub mod Rtc
+pub mod Mbc3
+pub mod Mbc5
+pub mod Mapper
+pub mod Cartridge
+pub mod Place
+pub mod Domain
+pub mod Clauses
+pub mod Follows
+pub mod Same
+pub mod Step
+pub mod Verdict
