@@ -17,3 +17,4 @@ pub mod StartLaws
 pub mod Windows
 pub mod Original
 pub mod Outside
+pub mod Parting

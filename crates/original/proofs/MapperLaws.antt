@@ -33,6 +33,7 @@ use Rattle.mapper.specs.Mappers.{kindOf, holds, bank0, bankX, written, late, cl
 use Rattle.mapper.specs.declared.Mapper.{Mapper}
 use Rattle.mapper.specs.declared.Mapper.the-variants.{NoMapper, Mbc1, Mbc2, Mbc3, Mbc5}
 use Rattle.window.specs.Window as window
+use Rattle.window.specs.declared.Way.{Way}
 use Rattle.window.specs.declared.Way.the-variants.{Bytes, Timer}
 use Rattle.access.specs.Verdict.{inRam}
 use Rattle.access.proofs.Laws.{below-ram}
@@ -89,7 +90,7 @@ rom0-same (Mbc2 m) o past {banks} {size} {area} f s addr h =
     ap (λ (x : original.Mapper). original.mapReadRom0 x addr) s ∙ mbc2.rom0-same banks (drop size area) m addr h
 rom0-same (Mbc3 m) o past {banks} {size} f (u, p, q) addr h =
     ap (λ (x : original.Mapper). original.mapReadRom0 x addr) p ∙ ap (λ (x : rust3.Mbc3). ok (rust3.mapReadRom0 x addr)) (q .is)
-    ∙ ap ok (mbc3.rom-0 banks size m (q .rtc) addr h)
+    ∙ mbc3.rom-0 banks size m (q .rtc) addr h
 rom0-same (Mbc5 m) o past {banks} {size} f s addr h =
     ap (λ (x : original.Mapper). original.mapReadRom0 x addr) (s .1) ∙ mbc5.rom0-same banks size (s .0) m addr h
 
@@ -206,14 +207,15 @@ module _ (p : RamAt) (size : ℕ) (area : List ℕ) (long : length area ≡ size
           ∙ ap ok (sym (take-all size (set area i byte) (omega (arith, length-set area i byte, long))))
       go at.NotMapped h = ap ok (sym whole)
 
+-- a value, or nothing mapped
+valued : (ram : List ℕ) (t : Bool) (x : ℕ) → readAt ram (pick t (Value (pick t x 0xFF)) NotMapped) ≡ ok (pick t x 0xFF)
+valued ram true x = refl
+valued ram false x = refl
+
 half-byte : (m : declared2.Mbc2) (ram half : List ℕ) (addr : ℕ)
     → readAt ram (pick (m .enabled) (Value (our2.halfRead m half addr)) NotMapped) ≡ ok (our2.halfRead m half addr)
 unfolding our2.halfRead
-half-byte m ram half addr = go (m .enabled) _
-  where
-    go : (t : Bool) (x : ℕ) → readAt ram (pick t (Value (pick t x 0xFF)) NotMapped) ≡ ok (pick t x 0xFF)
-    go true x = refl
-    go false x = refl
+half-byte m ram half addr = valued ram (m .enabled) _
 
 -- the half-bytes behind the RAM
 module _ (size : ℕ) (area : List ℕ) (long : length area ≡ size + 512) where
@@ -232,16 +234,12 @@ module _ (banks size : ℕ) (area : List ℕ) (past : Since) (m : declared3.Mbc3
   unfolding window.readOf windowRead
   shown-byte long = by (m .memory)
     where
-      on : (b : Bool) (x : ℕ) → readAt (take size area) (pick b (Value (pick b x 0xFF)) NotMapped) ≡ ok (pick b x 0xFF)
-      on true x = refl
-      on false x = refl
-
       by : (t : Bool)
           → readAt (take size area)
           (pick t (resultOf (reg3.ramAt m size addr)) (pick (onClock m) (Value (windowRead m)) NotMapped))
           ≡ ok (window.readBy (pick t (Bytes (reg3.ramAt m size addr)) (Timer m)) size area addr)
       by true = bytes-read (reg3.ramAt m size addr) size area long (our3.ram-at-inside m size addr)
-      by false = on (onClock m) _
+      by false = valued (take size area) (onClock m) _
 
   stored-byte : (byte : ℕ) → length area ≡ size
       → writeAt (take size area) (follows.storedAt m size addr) byte ≡ ok
@@ -312,31 +310,53 @@ module _ (banks size : ℕ) (area : List ℕ) (past : Since) (m : declared3.Mbc3
             (sym (after-write byte)) (x .next, refl, x .same);
       }
 
+-- a mapper whose window is a place in RAM, and that no access there changes
+module _ (m : Mapper) (o next : original.Mapper) (past : Since) {banks size : ℕ} {area : List ℕ} (addr : ℕ) (p : RamAt)
+    (long : length area ≡ size)
+    (inside : Inside p size)
+    (way : window.wayOf m size addr ≡ Bytes p) (same : (a : List ℕ) → SameMapper banks size a past m next) where
+  place-read : original.mapRamRead o addr ≡ ok (mapped next (resultOf p)) → ReadSame banks size area past m o addr
+  unfolding window.readOf
+  place-read e =
+      record {
+        next = next;
+        result = resultOf p;
+        is = e;
+        byte = bytes-read p size area long inside ∙ ap (λ (w : Way). ok (window.readBy w size area addr)) (sym way);
+        same = same area;
+      }
+
+  place-write : (byte : ℕ) → original.mapRamWrite o addr byte ≡ ok (mapped next (resultOf p))
+      → WriteSame banks size area past m o addr byte
+  unfolding window.areaAfter window.mapperAfter
+  place-write byte e =
+      record {
+        next = next;
+        result = resultOf p;
+        is = e;
+        ram =
+            bytes-write p size area long inside byte
+            ∙ ap (λ (w : Way). ok (take size (window.areaBy w size area addr byte))) (sym way);
+        same =
+            subst (λ (w : Way). SameMapper banks size (window.areaBy w size area addr byte) past
+            (window.mapperBy w m byte) next)
+            (sym way) (same (window.stored area p byte));
+      }
+
 pub read-same : (m : Mapper) (o : original.Mapper) (past : Since) {banks size : ℕ} {area : List ℕ} → Fit banks size area m
     → SameMapper banks size area past m o → (addr : ℕ) → inRam addr ≡ true
     → ReadSame banks size area (sinceAfter m past (reads addr)) m o addr
 unfolding window.readOf
 read-same (NoMapper m) o past {banks} {size} {area} f s addr i =
-    record {
-      next = original.NoMapper (noneOf size);
-      result = _;
-      is =
-          ap (λ (x : original.Mapper). original.mapRamRead x addr) s
-          ∙ ap (boxedResult original.NoMapper)
-          (none.ram-same size addr (f .sized) (limits (NoMapper m) banks size (f .held) .1));
-      byte = bytes-read (ramPlace size 0 addr) size area (f .long) (ram-inside size 0 addr);
-      same = refl;
-    }
+    place-read (NoMapper m) o (original.NoMapper (noneOf size)) past addr (ramPlace size 0 addr) (f .long)
+    (ram-inside size 0 addr) refl (λ a. refl)
+    (ap (λ (x : original.Mapper). original.mapRamRead x addr) s
+    ∙ ap (boxedResult original.NoMapper) (none.ram-same size addr (f .sized) (limits (NoMapper m) banks size (f .held) .1)))
 read-same (Mbc1 m) o past {banks} {size} {area} f s addr i =
-    record {
-      next = original.Mbc1 (mbc1Of banks size m);
-      result = _;
-      is =
-          ap (λ (x : original.Mapper). original.mapRamRead x addr) s
-          ∙ ap (boxedResult original.Mbc1) (mbc1.ram-same banks size m addr (small f));
-      byte = bytes-read (reg1.ramAt m size addr) size area (f .long) (our1.ram-at-inside m size addr);
-      same = refl;
-    }
+    place-read (Mbc1 m) o (original.Mbc1 (mbc1Of banks size m)) past addr (reg1.ramAt m size addr) (f .long)
+    (our1.ram-at-inside m size addr) refl (λ a. refl)
+    (ap (λ (x : original.Mapper). original.mapRamRead x addr) s
+    ∙ ap (boxedResult original.Mbc1) (mbc1.ram-same banks size m addr (small f)))
 read-same (Mbc2 m) o past {banks} {size} {area} f s addr i =
     record {
       next = original.Mbc2 (mbc2Of banks (drop size area) m);
@@ -351,41 +371,26 @@ read-same (Mbc2 m) o past {banks} {size} {area} f s addr i =
     }
 read-same (Mbc3 m) o past {banks} {size} {area} f (u, p, q) addr i = clock-read banks size area past m u q addr i (f .long) p
 read-same (Mbc5 m) o past {banks} {size} {area} f s addr i =
-    record {
-      next = original.Mbc5 (mbc5Of banks size (s .0) m);
-      result = _;
-      is =
-          ap (λ (x : original.Mapper). original.mapRamRead x addr) (s .1)
-          ∙ ap (boxedResult original.Mbc5) (mbc5.ram-same banks size (s .0) m addr (small f));
-      byte = bytes-read (reg5.ramAt m size addr) size area (f .long) (our5.ram-at-inside m size addr);
-      same = (s .0, refl);
-    }
+    place-read (Mbc5 m) o (original.Mbc5 (mbc5Of banks size (s .0) m)) past addr (reg5.ramAt m size addr) (f .long)
+    (our5.ram-at-inside m size addr) refl (λ a. (s .0, refl))
+    (ap (λ (x : original.Mapper). original.mapRamRead x addr) (s .1)
+    ∙ ap (boxedResult original.Mbc5) (mbc5.ram-same banks size (s .0) m addr (small f)))
 
 pub write-same : (m : Mapper) (o : original.Mapper) (past : Since) {banks size : ℕ} {area : List ℕ} → Fit banks size area m
     → SameMapper banks size area past m o → (addr byte : ℕ) → inRam addr ≡ true → byte < 256
     → Allowed m past (writes addr byte) (window.mapperAfter m size addr byte) → WriteSame banks size area past m o addr byte
 unfolding window.areaAfter window.mapperAfter
 write-same (NoMapper m) o past {banks} {size} {area} f s addr byte i l d =
-    record {
-      next = original.NoMapper (noneOf size);
-      result = _;
-      is =
-          ap (λ (x : original.Mapper). original.mapRamWrite x addr byte) s
-          ∙ ap (boxedResult original.NoMapper)
-          (none.ram-write-same size addr byte (f .sized) (limits (NoMapper m) banks size (f .held) .1));
-      ram = bytes-write (ramPlace size 0 addr) size area (f .long) (ram-inside size 0 addr) byte;
-      same = refl;
-    }
+    place-write (NoMapper m) o (original.NoMapper (noneOf size)) past addr (ramPlace size 0 addr) (f .long)
+    (ram-inside size 0 addr) refl (λ a. refl) byte
+    (ap (λ (x : original.Mapper). original.mapRamWrite x addr byte) s
+    ∙ ap (boxedResult original.NoMapper)
+    (none.ram-write-same size addr byte (f .sized) (limits (NoMapper m) banks size (f .held) .1)))
 write-same (Mbc1 m) o past {banks} {size} {area} f s addr byte i l d =
-    record {
-      next = original.Mbc1 (mbc1Of banks size m);
-      result = _;
-      is =
-          ap (λ (x : original.Mapper). original.mapRamWrite x addr byte) s
-          ∙ ap (boxedResult original.Mbc1) (mbc1.ram-write-same banks size m addr byte (small f));
-      ram = bytes-write (reg1.ramAt m size addr) size area (f .long) (our1.ram-at-inside m size addr) byte;
-      same = refl;
-    }
+    place-write (Mbc1 m) o (original.Mbc1 (mbc1Of banks size m)) past addr (reg1.ramAt m size addr) (f .long)
+    (our1.ram-at-inside m size addr) refl (λ a. refl) byte
+    (ap (λ (x : original.Mapper). original.mapRamWrite x addr byte) s
+    ∙ ap (boxedResult original.Mbc1) (mbc1.ram-write-same banks size m addr byte (small f)))
 write-same (Mbc2 m) o past {banks} {size} {area} f s addr byte i l d =
     let after = our2.halfAfter m (drop size area) addr byte in
     let first = front size area (f .long) in
@@ -401,15 +406,10 @@ write-same (Mbc2 m) o past {banks} {size} {area} f s addr byte i l d =
 write-same (Mbc3 m) o past {banks} {size} {area} f
     (u, p, q) addr byte i l d = clock-write banks size area past m u q addr byte i l d (f .long) p
 write-same (Mbc5 m) o past {banks} {size} {area} f s addr byte i l d =
-    record {
-      next = original.Mbc5 (mbc5Of banks size (s .0) m);
-      result = _;
-      is =
-          ap (λ (x : original.Mapper). original.mapRamWrite x addr byte) (s .1)
-          ∙ ap (boxedResult original.Mbc5) (mbc5.ram-write-same banks size (s .0) m addr byte (small f));
-      ram = bytes-write (reg5.ramAt m size addr) size area (f .long) (our5.ram-at-inside m size addr) byte;
-      same = (s .0, refl);
-    }
+    place-write (Mbc5 m) o (original.Mbc5 (mbc5Of banks size (s .0) m)) past addr (reg5.ramAt m size addr) (f .long)
+    (our5.ram-at-inside m size addr) refl (λ a. (s .0, refl)) byte
+    (ap (λ (x : original.Mapper). original.mapRamWrite x addr byte) (s .1)
+    ∙ ap (boxedResult original.Mbc5) (mbc5.ram-write-same banks size (s .0) m addr byte (small f)))
 
 -- ---- clocks
 

@@ -11,7 +11,7 @@ use lib.ListN.{getD}
 use borrow.Author.Tests.{lt-ltb, le-ltb, le-leb, lt-leb, ne-eqb, eq-eqb, ltb-true, ltb-false, leb-true}
 use Rattle.facts.specs.Choice.{pick, both, either}
 use Rattle.facts.specs.Banking.{placeOf}
-use Rattle.facts.proofs.ChoiceLaws.{false≢true, both-true, both-false, both-parts}
+use Rattle.facts.proofs.ChoiceLaws.{false≢true, both-parts}
 use Rattle.clock_registers.specs.Access.{readings}
 use Rattle.clock.specs.Access.{startAt, visible, shownOf, writtenOf, writtenClock, latchedOf}
 use Rattle.clock.specs.Ticking.{ticks}
@@ -45,6 +45,7 @@ use Rattle.original.specs.Mbc3.{
 use Rattle.original.specs.Domain.{Since, since, completed, onward}
 use Rattle.original.specs.Place.{resultOf}
 use Rattle.original.specs.Follows.{secondParts, clocksOn, Follows, Counts, Clocked, mbc3Of, Same, shownAt, storedAt}
+use Rattle.original.proofs.MachineLaws.{inside, outside, rom-banked, rom-first}
 use Rattle.original.proofs.CountLaws.{counted, counts-on, counts-after, clocks-follow}
 use Rattle.original.proofs.FollowsLaws.{start-follows, read-follows, latch-follows, ProperWrite, write-follows}
 
@@ -75,17 +76,13 @@ start-same banks size timer wall b s =
 -- ---- places in the ROM
 
 module _ (banks size : ℕ) (m : declared.Mbc3) (r : RtcRegister) (at : ℕ) where
-  pub rom-0 : at < 0x4000 → mapReadRom0 (mbc3Of banks size m r) at ≡ romPlace banks (ours.bank0 m) at
-  unfolding mapReadRom0 placeOf
-  rom-0 h = let e : 0 % banks ≡ 0 = zero-mod banks in rw (e, mod-eq-of-lt h) (omega arith)
-    where
-      zero-mod : (k : ℕ) → 0 % k ≡ 0
-      zero-mod zero = refl
-      zero-mod (suc k) = mod-eq-of-lt (omega arith)
+  pub rom-0 : at < 0x4000 → ok (mapReadRom0 (mbc3Of banks size m r) at) ≡ ok (romPlace banks (ours.bank0 m) at)
+  unfolding mapReadRom0
+  rom-0 h = rom-first banks at h
 
   pub rom-x : 0 < banks → mapReadRomx (mbc3Of banks size m r) at ≡ ok (romPlace banks (ours.bankX m) at)
-  unfolding mapReadRomx placeOf
-  rom-x pos = rw (ne-eqb banks 0 (λ e. omega arith), and-mask at 14) refl
+  unfolding mapReadRomx
+  rom-x pos = rom-banked (ours.bankX m) banks at pos
 
   -- ---- in RAM: no whole bank, which 2 KiB is not, is tested first
 
@@ -132,13 +129,6 @@ pub record Stepped (banks size : ℕ) (s : Since) (m : declared.Mbc3) (o : Outco
   pub next : Mbc3
   pub is : o ≡ ok next
   pub same : Same banks size s m next
-
--- an address in a range of the `match`, or past it
-inside : (low high at : ℕ) → low ≤ at → at ≤ high → both (leb low at) (leb at high) ≡ true
-inside low high at l h = both-true (le-leb low at l) (le-leb at high h)
-
-past : (low high at : ℕ) → high < at → both (leb low at) (leb at high) ≡ false
-past low high at h = ap (both (leb low at)) (lt-leb at high h) ∙ both-false (leb low at)
 
 module _ (banks size : ℕ) (s : Since) (m : declared.Mbc3) (u : Mbc3) (same : Same banks size s m u) where
   -- with a timer the RTC follows our clock
@@ -250,7 +240,8 @@ module _ (banks size : ℕ) (s : Since) (m : declared.Mbc3) (u : Mbc3) (same : S
       (record {
         next = mbc3Of banks size m (x .next);
         is =
-            ap (λ (o : Outcome RtcRegister). bind (bind o (λ r. ok (mbc3Of banks size m r))) (λ v. mapped v to.NotMapped)) (x .is);
+            ap (λ (o : Outcome RtcRegister). bind (bind o (λ r. ok (mbc3Of banks size m r))) (λ v. mapped v to.NotMapped))
+            (x .is);
         same =
             record {
               rtc = x .next;
@@ -389,11 +380,11 @@ module _ (banks size : ℕ) (s : Since) (m : declared.Mbc3) (u : Mbc3) (same : S
       let l = ltb-false at 0x4000 q in
       let k = ltb-true at 0x6000 r in
       let i = inside 0x4000 0x5FFF at l (omega arith) in
-      rw (lt-leb at 0x1FFF (omega arith), past 0x2000 0x3FFF at (omega arith), i) (selects byte (sel i))
+      rw (lt-leb at 0x1FFF (omega arith), outside 0x2000 0x3FFF at (omega arith), i) (selects byte (sel i))
   write-range at byte false false false p q r h o sel lat =
       let l = ltb-false at 0x6000 r in
       let i = inside 0x6000 0x7FFF at l (omega arith) in
-      rw (lt-leb at 0x1FFF (omega arith), past 0x2000 0x3FFF at (omega arith), past 0x4000 0x5FFF at (omega arith), i)
+      rw (lt-leb at 0x1FFF (omega arith), outside 0x2000 0x3FFF at (omega arith), outside 0x4000 0x5FFF at (omega arith), i)
       (latches byte (m .timer) refl (lat i))
 
   pub write-register : (at byte : ℕ) → at < 0x8000 → byte < 256 →

@@ -1,4 +1,5 @@
--- What the domain leaves out, and why: there the original panics or answers otherwise. Assumes nothing.
+-- What the domain leaves out, and why: there the original panics or answers otherwise. The clauses of a sequence have their own
+-- examples, in Parting. Assumes nothing.
 use mathlib.Core.Bool.{true, false}
 use mathlib.Core.Path.{_≡_, refl}
 use Rattle.bus.specs.Run.{reads}
@@ -45,8 +46,3 @@ mbc1-remainder = refl
 -- number 15: no function of the cartridge serves another address.
 pub none-serves : (o : Cartridge) → originalStep o (reads 0x8000) ≡ panic
 none-serves o = refl
-
--- number 16: a selection that there is not is an assert.
-pub mbc3-selection : mbc3.writeBankControllerRegister (mbc3.new true 0) 0x4000 5 ≡ panic
-unfolding mbc3.writeBankControllerRegister
-mbc3-selection = refl
