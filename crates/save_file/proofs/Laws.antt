@@ -194,7 +194,10 @@ module _ (c : Cartridge) (area : ℕ) (save : List ℕ) (wall : ℕ) where
   pub loaded-short : length save < area → loaded.Refuse ShortSave ≡ loadedOf c area save wall
   loaded-short h = by-short (lt-ltb (length save) area h)
 
-  pub loaded-long : {x y : declared.Loaded} → area ≤ length save → x ≡ battery.loadOf (c .mapper) (drop area save) wall → x ≡ y
+  -- what the battery is lent is the part of the save from the area's length on
+  pub loaded-long : {x y : declared.Loaded} → area ≤ length save
+      → x ≡ battery.loadOf (c .mapper) (take (length save - area) (drop area save)) wall → x ≡ y
       → fromBattery c y ≡ loadedOf c area save wall
   loaded-long h e g =
-      ap (fromBattery c) (sym g ∙ e) ∙ from-battery c (drop area save) wall ∙ by-short (le-ltb (length save) area h)
+      ap (fromBattery c) (sym g ∙ e ∙ ap (λ (s : List ℕ). battery.loadOf (c .mapper) s wall) (part-from area save))
+      ∙ from-battery c (drop area save) wall ∙ by-short (le-ltb (length save) area h)

@@ -4,11 +4,7 @@ use Rattle.save_file.proofs.load_admitted.Statement.{statement}
 use Rattle.save_file.proofs.load_admitted.Tie as tie
 use denote.Ref.{now}
 use lib.ListN.{length}
-use mathlib.Core.Path.{refl, ap, _∙_}
-use mathlib.Core.List.{List}
-use Prim.Native.Nat.{ℕ}
-use Rattle.facts.proofs.ListLaws.{part-from}
-use Rattle.battery.specs.Battery as battery
+use mathlib.Core.Path.{refl}
 use Rattle.save_file.proofs.Laws.{loaded-short, loaded-long}
 
 returns : tie.Need-returns
@@ -52,8 +48,7 @@ returns-2 c =
     let l = n .before .before in
     let i = l .before .before in
     let a = i .before .before .before .args in (
-      loaded-long (a .cart) (length (now (a .ram))) (now (a .save)) (a .wall) (i .if1 .left) (l .load-battery .ensures
-          ∙ ap (λ (x : List ℕ). battery.loadOf (a .cart .mapper) x (a .wall)) (part-from (length (now (a .ram))) (now (a .save))))
+      loaded-long (a .cart) (length (now (a .ram))) (now (a .save)) (a .wall) (i .if1 .left) (l .load-battery .ensures)
           (n .next .given .1),
       c .before .before .restore .ensures,
     )
@@ -67,8 +62,7 @@ returns-3 c =
     let l = n .before .before in
     let i = l .before .before in
     let a = i .before .before .before .args in (
-      loaded-long (a .cart) (length (now (a .ram))) (now (a .save)) (a .wall) (i .if1 .left) (l .load-battery .ensures
-          ∙ ap (λ (x : List ℕ). battery.loadOf (a .cart .mapper) x (a .wall)) (part-from (length (now (a .ram))) (now (a .save))))
+      loaded-long (a .cart) (length (now (a .ram))) (now (a .save)) (a .wall) (i .if1 .left) (l .load-battery .ensures)
           (n .enum-told .given .1),
       c .before .before .restore2 .ensures,
     )
@@ -79,8 +73,7 @@ returns-4 c =
     let l = n .before .before in
     let i = l .before .before in
     let a = i .before .before .before .args in (
-      loaded-long (a .cart) (length (now (a .ram))) (now (a .save)) (a .wall) (i .if1 .left) (l .load-battery .ensures
-          ∙ ap (λ (x : List ℕ). battery.loadOf (a .cart .mapper) x (a .wall)) (part-from (length (now (a .ram))) (now (a .save))))
+      loaded-long (a .cart) (length (now (a .ram))) (now (a .save)) (a .wall) (i .if1 .left) (l .load-battery .ensures)
           (n .why .given .1),
       refl,
     )
