@@ -26,8 +26,8 @@ use Rattle.types.specs.declared.Found.the-variants.{Row, Unknown}
 use Rattle.header.specs.Size.{romSize, mends, romFits, ramSizeOf}
 use Rattle.header.specs.Check.{isKnown, rowOf, multicartOf, romLength, foundOf}
 use Rattle.header.proofs.SizeLaws.{one-bit}
-use Rattle.promises.specs.Padded.{padded}
-use Rattle.promises.proofs.ImageLaws.{padded-length}
+use Rattle.runs.specs.Padded.{padded}
+use Rattle.runs.proofs.ImageLaws.{padded-length}
 use Rattle.original.specs.Machine.{Outcome, ok, panic, bind, div, index, slice, same, takeWhile, shlUsize, isMultipleOf, isPowerOfTwo, ilog2}
 use Rattle.original.specs.MappingResult.{MapperType, Mbc1}
 use Rattle.original.specs.Cartridge as cartridge

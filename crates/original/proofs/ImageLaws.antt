@@ -12,8 +12,8 @@ use borrow.Author.Tests.{eqb-true, eqb-false, ltb-true, ltb-false}
 use Rattle.facts.specs.Choice.{pick, both}
 use Rattle.image.specs.Image.{byteAt, paddedLength, logo, standsAt, logoAt, sumFrom, checksumOf, upToZero, titleOf}
 use Rattle.image.proofs.ImageLaws.{left-all}
-use Rattle.promises.specs.Padded.{padded}
-use Rattle.promises.proofs.ImageLaws.{padded-length, padded-byte}
+use Rattle.runs.specs.Padded.{padded}
+use Rattle.runs.proofs.ImageLaws.{padded-length, padded-byte}
 use Rattle.original.specs.Machine.{ok, slice, index, same, takeWhile, wrappingSub, isMultipleOf}
 use Rattle.original.specs.Cartridge.{nintendoLogoData, extended, checksumFrom}
 use Rattle.original.specs.Same.{Octets}

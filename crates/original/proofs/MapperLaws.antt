@@ -38,8 +38,8 @@ use Rattle.window.specs.declared.Way.the-variants.{Bytes, Timer}
 use Rattle.access.specs.Verdict.{inRam}
 use Rattle.access.proofs.Laws.{below-ram}
 use Rattle.bus.specs.Run.{reads, writes, clocks}
-use Rattle.promises.specs.Limits.{Within}
-use Rattle.promises.proofs.ImageLaws as image
+use Rattle.runs.specs.Limits.{Within}
+use Rattle.runs.proofs.ImageLaws as image
 use Rattle.original.specs.Machine.{Outcome, ok, panic, bind}
 use Rattle.original.specs.MappingResult.{MappingResult, mapped, Value, NotMapped}
 use Rattle.original.specs.Mbc3 as rust3

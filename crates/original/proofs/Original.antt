@@ -16,10 +16,10 @@ use Rattle.mount.specs.Mount as mount
 use Rattle.mount.specs.Mount.{mountOf}
 use Rattle.mount.specs.declared.Mounted.the-variants as mounted
 use Rattle.bus.specs.Run.{Access, Machine, stepOf}
-use Rattle.promises.specs.Calls.{Ready, Octet}
-use Rattle.promises.specs.Calls as calls
-use Rattle.promises.proofs.ImageLaws.{padded-length}
-use Rattle.promises.proofs.RunLaws.{mount-ready}
+use Rattle.runs.specs.Calls.{Ready, Octet}
+use Rattle.runs.specs.Calls as calls
+use Rattle.runs.proofs.ImageLaws.{padded-length}
+use Rattle.runs.proofs.RunLaws.{mount-ready}
 use Rattle.original.specs.Machine.{ok, panic}
 use Rattle.original.specs.Cartridge.{Cartridge, CartridgeError, taken, error, fromFile}
 use Rattle.original.specs.Same.{Same, Octets}

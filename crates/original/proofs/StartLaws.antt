@@ -23,9 +23,9 @@ use Rattle.mount.specs.Mount as mount
 use Rattle.mount.specs.Mount.{startOf, cartOf, mountOf}
 use Rattle.mount.specs.declared.Mounted.{Mounted}
 use Rattle.mount.specs.declared.Mounted.the-variants as mounted
-use Rattle.promises.specs.Limits.{Within}
-use Rattle.promises.proofs.ImageLaws.{within}
-use Rattle.promises.proofs.BusLaws.{mount-taken}
+use Rattle.runs.specs.Limits.{Within}
+use Rattle.runs.proofs.ImageLaws.{within}
+use Rattle.runs.proofs.BusLaws.{mount-taken}
 use Rattle.original.specs.Machine.{Outcome, ok}
 use Rattle.original.specs.Mbc3 as mbc3
 use Rattle.original.specs.Mapper as original

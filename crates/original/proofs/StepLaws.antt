@@ -40,10 +40,10 @@ use Rattle.bus.specs.Advance.{advanceOf}
 use Rattle.bus.specs.Run as run
 use Rattle.bus.specs.Run.{Access, Machine, afterRead, afterWrite, afterClocks, stepOf, runOf}
 use Rattle.bus.specs.declared.Advanced.the-variants as advanced
-use Rattle.promises.specs.Calls.{Ready, Octet}
-use Rattle.promises.specs.Calls as calls
-use Rattle.promises.proofs.ImageLaws.{padded-length, padded-byte}
-use Rattle.promises.proofs.RunLaws.{run-ready}
+use Rattle.runs.specs.Calls.{Ready, Octet}
+use Rattle.runs.specs.Calls as calls
+use Rattle.runs.proofs.ImageLaws.{padded-length, padded-byte}
+use Rattle.runs.proofs.RunLaws.{run-ready}
 use Rattle.original.specs.Machine.{Outcome, ok, panic, bind, index}
 use Rattle.original.specs.MappingResult.{Mapped, mapped}
 use Rattle.original.specs.Mapper as original

@@ -37,8 +37,8 @@ use Rattle.header.specs.declared.HeaderRefusal.the-variants.{
 use Rattle.header.specs.declared.Facts.{Facts}
 use Rattle.header.specs.declared.Checked.{Checked}
 use Rattle.header.specs.declared.Checked.the-variants.{Accept, Refuse}
-use Rattle.promises.specs.Padded.{padded}
-use Rattle.promises.proofs.ImageLaws.{within}
+use Rattle.runs.specs.Padded.{padded}
+use Rattle.runs.proofs.ImageLaws.{within}
 use Rattle.original.specs.Machine.{Outcome, ok, panic, bind, asU8, asU16}
 use Rattle.original.specs.NoMapper as none
 use Rattle.original.specs.Mbc1 as mbc1

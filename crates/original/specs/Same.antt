@@ -15,7 +15,7 @@ use Rattle.mapper.specs.Mappers.{holds, fitRegisters, areaOf}
 use Rattle.mapper.specs.declared.Mapper.{Mapper}
 use Rattle.mapper.specs.declared.Mapper.the-variants.{NoMapper, Mbc1, Mbc2, Mbc3, Mbc5}
 use Rattle.bus.specs.Run.{Machine}
-use Rattle.promises.specs.Padded.{padded}
+use Rattle.runs.specs.Padded.{padded}
 use Rattle.original.specs.Machine.{asU8}
 use Rattle.original.specs.NoMapper as none
 use Rattle.original.specs.Mbc1 as mbc1

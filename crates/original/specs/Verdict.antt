@@ -17,7 +17,7 @@ use Rattle.header.specs.declared.Checked.the-variants.{Accept, Refuse}
 use Rattle.mbc1.specs.Registers as our1
 use Rattle.mbc2.specs.Registers as our2
 use Rattle.mbc5.specs.Registers as our5
-use Rattle.promises.specs.Padded.{padded}
+use Rattle.runs.specs.Padded.{padded}
 use Rattle.original.specs.Machine.{Outcome, ok, panic}
 use Rattle.original.specs.MappingResult.{MapperType, NoMapper, Mbc1, Mbc2, Mbc3, Mbc5, Mmm01, Mbc6, Mbc7}
 use Rattle.original.specs.Mbc3 as mbc3

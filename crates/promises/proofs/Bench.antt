@@ -12,8 +12,8 @@ use Rattle.clock_registers.specs.declared.Registers.{Registers}
 use Rattle.clock.specs.declared.Clock.{Clock}
 use Rattle.clock.specs.declared.Advanced.the-variants.{To}
 use Rattle.clock.proofs.AnswerLaws.{taken-answer}
-use Rattle.promises.specs.Time.{secondsOf}
-use Rattle.promises.proofs.TimeLaws.{taken-seconds}
+use Rattle.runs.specs.Time.{secondsOf}
+use Rattle.runs.proofs.TimeLaws.{taken-seconds}
 use borrow.Author.Tests.{lt-ltb, le-ltb}
 use Rattle.facts.specs.Banking.{placeOf}
 use Rattle.banking.specs.Banks.{orOne, romPlace}

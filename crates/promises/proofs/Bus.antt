@@ -56,9 +56,9 @@ use Rattle.bus.specs.declared.WriteAnswer.{WriteAnswer}
 use Rattle.bus.specs.declared.WriteAnswer.the-variants as write
 use Rattle.bus.specs.declared.Advanced.{Advanced}
 use Rattle.bus.specs.declared.Advanced.the-variants as advanced
-use Rattle.promises.specs.Calls.{Calls, Octets, Ready, AllNeither, AtMostOne}
-use Rattle.promises.proofs.BusLaws as laws
-use Rattle.promises.proofs.RunLaws as sequence
+use Rattle.runs.specs.Calls.{Calls, Octets, Ready, AllNeither, AtMostOne}
+use Rattle.runs.proofs.BusLaws as laws
+use Rattle.runs.proofs.RunLaws as sequence
 
 -- 1. The numbers stand in their order: 13, 14, 15, 16 on the bus and 13, 17 for an advance;
 pub bus-numbers-in-order : (c : Cartridge) (lent : Bool) (addr : ℕ) (bad : Bool)

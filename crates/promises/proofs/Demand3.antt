@@ -29,8 +29,8 @@ use Rattle.clock.proofs.FitLaws.{fit-parts}
 use Rattle.clock.proofs.AnswerLaws.{halted-answer}
 use Rattle.clock.proofs.KeptLaws.{advance-taken, advance-fit, write-fit, latch-fit, start-fit}
 use Rattle.clock_registers.proofs.KeptLaws.{forward-fit}
-use Rattle.promises.specs.Time.{thenAdvance, singleTicks, Proper, SameTime, secondsOf, period, keeps}
-use Rattle.promises.proofs.TimeLaws.{
+use Rattle.runs.specs.Time.{thenAdvance, singleTicks, Proper, SameTime, secondsOf, period, keeps}
+use Rattle.runs.proofs.TimeLaws.{
   joined,
   by-singles,
   late-exactly,

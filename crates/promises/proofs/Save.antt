@@ -29,9 +29,9 @@ use Rattle.save_file.specs.declared.Saved.the-variants as saved
 use Rattle.save_file.specs.declared.Loaded.{Loaded}
 use Rattle.save_file.specs.declared.Loaded.the-variants.{Whole, Refuse}
 use Rattle.bus.specs.Run.{Machine}
-use Rattle.promises.specs.Calls.{Ready}
-use Rattle.promises.specs.Saves.{Timed, Back}
-use Rattle.promises.proofs.SaveLaws as laws
+use Rattle.runs.specs.Calls.{Ready}
+use Rattle.runs.specs.Saves.{Timed, Back}
+use Rattle.runs.proofs.SaveLaws as laws
 
 -- 1. The numbers stand in their order: 13, 14, 18, 21 out, and 13, 14, 18, 19, 20, 17 in,
 pub save-numbers-in-order : (c : Cartridge) (ram : List ℕ) (room wall : ℕ)

@@ -27,9 +27,9 @@ use Rattle.header.proofs.CheckLaws.{no-1}
 use Rattle.header.proofs.SizeLaws.{Power, mends-power, power-mends}
 use Rattle.header.proofs.AcceptedLaws.{refused-by, refused-only, accepted-if, accepted-only, accepted-fits}
 use Rattle.header.proofs.LocalLaws.{same-verdict}
-use Rattle.promises.specs.Padded.{padded}
-use Rattle.promises.specs.Limits.{Within}
-use Rattle.promises.proofs.ImageLaws as image
+use Rattle.runs.specs.Padded.{padded}
+use Rattle.runs.specs.Limits.{Within}
+use Rattle.runs.proofs.ImageLaws as image
 
 -- 1. Number k is given exactly where its test holds and no earlier one does: the tests stand in the order of their numbers,
 pub numbers-in-order : (s : List ℕ)

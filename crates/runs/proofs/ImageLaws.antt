@@ -13,8 +13,8 @@ use Rattle.image.specs.Image.{byteAt, paddedLength, sumFrom, checksumOf}
 use Rattle.types.specs.Types.{supportedOf, beyondOf}
 use Rattle.types.specs.declared.Kind.{Kind}
 use Rattle.types.specs.declared.Kind.the-variants.{NoMapper, Mbc1, Mbc2, Mbc3, Mbc5, Mmm01, Mbc6, Mbc7}
-use Rattle.promises.specs.Padded.{padded}
-use Rattle.promises.specs.Limits.{Within}
+use Rattle.runs.specs.Padded.{padded}
+use Rattle.runs.specs.Limits.{Within}
 
 pub padded-length : (s : List ℕ) → length (padded s) ≡ paddedLength (length s)
 unfolding padded paddedLength

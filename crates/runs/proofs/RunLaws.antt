@@ -34,10 +34,10 @@ use Rattle.bus.specs.declared.WriteAnswer.the-variants as write
 use Rattle.bus.specs.declared.Advanced.{Advanced}
 use Rattle.bus.specs.declared.Advanced.the-variants as advanced
 use Rattle.access.proofs.Laws.{by-tests}
-use Rattle.promises.specs.Calls.{Called, Calls, Octet, Octets, Ready, Neither, AllNeither}
-use Rattle.promises.specs.Calls as calls
-use Rattle.promises.proofs.MapperLaws as kept
-use Rattle.promises.proofs.BusLaws.{write-taken, write-fit, write-area-stays, write-one, one-length, advance-taken, advance-fit, mount-taken, mount-fit}
+use Rattle.runs.specs.Calls.{Called, Calls, Octet, Octets, Ready, Neither, AllNeither}
+use Rattle.runs.specs.Calls as calls
+use Rattle.runs.proofs.MapperLaws as kept
+use Rattle.runs.proofs.BusLaws.{write-taken, write-fit, write-area-stays, write-one, one-length, advance-taken, advance-fit, mount-taken, mount-fit}
 
 -- ---- the calls made one after the other are the run
 

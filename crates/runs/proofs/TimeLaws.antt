@@ -33,7 +33,7 @@ use Rattle.clock_registers.proofs.SecondLaws.{placed, by-places, minuteSteps, h
 use Rattle.clock.proofs.TickLaws.{after, moving-ticks, halted-ticks, ticks-add, ticks-fit, time-grows}
 use Rattle.clock.proofs.AnswerLaws.{unfit-answer, late-answer, taken-answer}
 use Rattle.clock.proofs.KeptLaws.{SameCopy, advance-taken, ticks-copy}
-use Rattle.promises.specs.Time.{thenAdvance, singleTicks, Proper, SameTime, secondsOf, period, keeps}
+use Rattle.runs.specs.Time.{thenAdvance, singleTicks, Proper, SameTime, secondsOf, period, keeps}
 
 -- ---- one advance after the other
 
@@ -68,10 +68,10 @@ by-singles (suc n) c =
 -- ---- the period: each place comes back only after whole rounds, and whole rounds bring it back
 
 module _ (r : Registers) (f : fitRegisters r ≡ true) (p : Proper r) where
-  pub no-sooner : (k : ℕ) → 0 < k → k < period → SameTime r (secondsOn k r) → ⊥
+  pub no-sooner : (k : ℕ) → 0 < k → k < period → SameTime (secondsOn k r) r → ⊥
   unfolding placed
   no-sooner k pos less same =
-      let q = subst (SameTime r) (by-places k r) same in
+      let q = subst (λ (x : Registers). SameTime x r) (by-places k r) same in
       let s = comes-back-whole sixty (omega arith) (cyclic-grows 64 60 (omega arith)) k (r .second) (p .second) (q .second) in
       let m = comes-back-whole sixty (omega arith) (cyclic-grows 64 60 (omega arith)) (minuteSteps k r) (r .minute) (p .minute) (q .minute) in
       let h = comes-back-whole hours (omega arith) (cyclic-grows 32 24 (omega arith)) (hourSteps k r) (r .hour) (p .hour) (q .hour) in

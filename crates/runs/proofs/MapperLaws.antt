@@ -1,11 +1,12 @@
--- Writes, clocks and the start leave a mapper fit and within its limits. Assumes nothing.
+-- Writes, clocks and the start leave a mapper fit and within its limits; the clock that is in it. Assumes nothing.
 use mathlib.Core.Bool.{Bool, true, false, not}
-use mathlib.Core.Path.{_≡_, refl, ap}
+use mathlib.Core.Path.{_≡_, refl, sym, ap, _∙_}
 use Prim.Native.Nat.{ℕ, _<_}
-use lib.Dec.{eqb, ltb}
+use native.Mathlib.Omega.{arith}
+use lib.Dec.{eqb, ltb, leb}
 use borrow.Author.Tests.{eq-eqb}
-use Rattle.facts.specs.Choice.{both, either}
-use Rattle.facts.proofs.ChoiceLaws.{false≢true, pick-has, both-true}
+use Rattle.facts.specs.Choice.{pick, both, either}
+use Rattle.facts.proofs.ChoiceLaws.{false≢true, pick-has, both-true, both-right}
 use Rattle.types.specs.Types.{supportedOf, beyondOf}
 use Rattle.types.specs.declared.Kind.{Kind}
 use Rattle.types.specs.declared.Kind.the-variants as kind
@@ -13,17 +14,22 @@ use Rattle.mbc1.specs.Registers as mbc1
 use Rattle.mbc1.specs.declared.Mbc1 as declared
 use Rattle.mbc1.proofs.Laws as mbc1-laws
 use Rattle.mbc2.proofs.Laws as mbc2-laws
+use Rattle.mbc3.specs.Registers as mbc3
 use Rattle.mbc3.proofs.FitLaws as mbc3-laws
+use Rattle.timer.specs.Advance as timer-specs
 use Rattle.timer.proofs.FitLaws as timer-laws
 use Rattle.mbc5.proofs.Laws as mbc5-laws
+use Rattle.banking.specs.Banks.{fromOne}
 use Rattle.clock.specs.Fit.{fitClock}
+use Rattle.clock.specs.Ticking as ticking
 use Rattle.clock.specs.declared.Clock.{Clock}
-use Rattle.mapper.specs.Mappers.{holds, fitRegisters, areaOf, written, clocksOn}
+use Rattle.mapper.specs.Mappers.{holds, fitRegisters, areaOf, written, late, clocksOn}
 use Rattle.mapper.specs.declared.Mapper.{Mapper}
 use Rattle.mapper.specs.declared.Mapper.the-variants.{NoMapper, Mbc1, Mbc2, Mbc3, Mbc5}
 use Rattle.window.specs.Window.{mapperBy, mapperAfter}
 use Rattle.window.specs.declared.Way.{Way}
-use Rattle.battery.specs.Battery.{withClock}
+use Rattle.battery.specs.Battery.{clockIn, hasClock, withClock}
+use Rattle.battery.specs.declared.Timer.the-variants as timer
 use Rattle.mount.specs.Mount.{startOf}
 
 -- ---- fit registers
@@ -139,3 +145,69 @@ start-holds (kind.Mbc5 rumble) multicart wall banks size s b m = both-true (ap n
 start-holds kind.Mmm01 multicart wall banks size s b m = false≢true s
 start-holds kind.Mbc6 multicart wall banks size s b m = false≢true s
 start-holds kind.Mbc7 multicart wall banks size s b m = false≢true s
+
+-- ---- the clock in a mapper
+
+pub clock-fits : (m : Mapper) (k : Clock) → clockIn m ≡ timer.Clock k → fitRegisters m ≡ true → fitClock k ≡ true
+unfolding mbc3.fitRegisters
+clock-fits (NoMapper m) k e f = let z : _≡_ {A = ℕ} 0 1 = cc in absurd (omega arith)
+clock-fits (Mbc1 m) k e f = let z : _≡_ {A = ℕ} 0 1 = cc in absurd (omega arith)
+clock-fits (Mbc2 m) k e f = let z : _≡_ {A = ℕ} 0 1 = cc in absurd (omega arith)
+clock-fits (Mbc3 m) k e f = go (m .timer) e (both-right (both (fromOne 255 (m .bank)) (leb (m .ram) 3)) _ f)
+  where
+    go : (t : Bool) → pick t (timer.Clock (m .clock)) timer.Nothing ≡ timer.Clock k
+        → either (not t) (both (leb (m .register) 4) (fitClock (m .clock))) ≡ true → fitClock k ≡ true
+    go true p q = let same : m .clock ≡ k = cc in ap fitClock (sym same) ∙ both-right (leb (m .register) 4) (fitClock (m .clock)) q
+    go false p q = let z : _≡_ {A = ℕ} 0 1 = cc in absurd (omega arith)
+clock-fits (Mbc5 m) k e f = let z : _≡_ {A = ℕ} 0 1 = cc in absurd (omega arith)
+
+pub clock-with : (m : Mapper) (w : Clock) → hasClock (clockIn m) ≡ true → clockIn (withClock m w) ≡ timer.Clock w
+clock-with (NoMapper m) w e = false≢true e
+clock-with (Mbc1 m) w e = false≢true e
+clock-with (Mbc2 m) w e = false≢true e
+clock-with (Mbc3 m) w e = go (m .timer) e
+  where
+    go : (t : Bool) → hasClock (pick t (timer.Clock (m .clock)) timer.Nothing) ≡ true
+        → pick t (timer.Clock w) timer.Nothing ≡ timer.Clock w
+    go true p = refl
+    go false p = false≢true p
+clock-with (Mbc5 m) w e = false≢true e
+
+-- an advance of a mapper with a clock is the clock's
+pub clock-moves : (m : Mapper) (k : Clock) (n : ℕ) → clockIn m ≡ timer.Clock k
+    → (late m n ≡ ticking.late k n) × (clocksOn m n ≡ withClock m (ticking.ticks n k))
+unfolding timer-specs.clocksOn
+clock-moves (NoMapper m) k n e = let z : _≡_ {A = ℕ} 0 1 = cc in absurd (omega arith)
+clock-moves (Mbc1 m) k n e = let z : _≡_ {A = ℕ} 0 1 = cc in absurd (omega arith)
+clock-moves (Mbc2 m) k n e = let z : _≡_ {A = ℕ} 0 1 = cc in absurd (omega arith)
+clock-moves (Mbc3 m) k n e = go (m .timer) e
+  where
+    go : (t : Bool) → pick t (timer.Clock (m .clock)) timer.Nothing ≡ timer.Clock k
+        → (both t (ticking.late (m .clock) n) ≡ ticking.late k n)
+        × (Mbc3 (pick t (mbc3.withClock m (ticking.ticks n (m .clock))) m) ≡ Mbc3 (mbc3.withClock m (ticking.ticks n k)))
+    go true p = let same : m .clock ≡ k = cc in (ap (λ (x : Clock). ticking.late x n) same, ap (λ (x : Clock). Mbc3 (mbc3.withClock m (ticking.ticks n x))) same)
+    go false p = let z : _≡_ {A = ℕ} 0 1 = cc in absurd (omega arith)
+clock-moves (Mbc5 m) k n e = let z : _≡_ {A = ℕ} 0 1 = cc in absurd (omega arith)
+
+-- and without one it stands
+pub no-clock-stands : (m : Mapper) (n : ℕ) → clockIn m ≡ timer.Nothing → (late m n ≡ false) × (clocksOn m n ≡ m)
+unfolding timer-specs.clocksOn
+no-clock-stands (NoMapper m) n e = (refl, refl)
+no-clock-stands (Mbc1 m) n e = (refl, refl)
+no-clock-stands (Mbc2 m) n e = (refl, refl)
+no-clock-stands (Mbc3 m) n e = go (m .timer) e
+  where
+    go : (t : Bool) → pick t (timer.Clock (m .clock)) timer.Nothing ≡ timer.Nothing
+        → (both t (ticking.late (m .clock) n) ≡ false)
+        × (Mbc3 (pick t (mbc3.withClock m (ticking.ticks n (m .clock))) m) ≡ Mbc3 m)
+    go true p = let z : _≡_ {A = ℕ} 0 1 = cc in absurd (omega arith)
+    go false p = (refl, refl)
+no-clock-stands (Mbc5 m) n e = (refl, refl)
+
+-- a clock put in twice is the second
+pub with-clock-twice : (m : Mapper) (j k : Clock) → withClock (withClock m j) k ≡ withClock m k
+with-clock-twice (NoMapper m) j k = refl
+with-clock-twice (Mbc1 m) j k = refl
+with-clock-twice (Mbc2 m) j k = refl
+with-clock-twice (Mbc3 m) j k = refl
+with-clock-twice (Mbc5 m) j k = refl

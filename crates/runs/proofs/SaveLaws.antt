@@ -46,10 +46,11 @@ use Rattle.save_file.specs.declared.SaveRefusal.the-variants.{Unfit, WrongLengt
 use Rattle.save_file.specs.declared.Loaded.{Loaded}
 use Rattle.save_file.specs.declared.Loaded.the-variants.{Whole, RamOnly, Refuse}
 use Rattle.bus.specs.Run.{Machine}
-use Rattle.promises.specs.Calls.{Ready}
-use Rattle.promises.specs.Saves.{SameTime, Timed, Back}
-use Rattle.promises.proofs.MapperLaws as kept
-use Rattle.promises.proofs.BusLaws.{fit-with}
+use Rattle.runs.specs.Calls.{Ready}
+use Rattle.runs.specs.Time.{SameTime}
+use Rattle.runs.specs.Saves.{Kept, Back}
+use Rattle.runs.proofs.MapperLaws as kept
+use Rattle.runs.proofs.BusLaws.{fit-with}
 
 -- ---- an accepted load
 
@@ -140,33 +141,6 @@ load-area-stays c d area save wall e =
     let t = load-taken c area save wall d e in
     ap areaOf (t .is) ∙ kept.with-clock-same (c .mapper) (wokenOf (blockIn (drop area save)) wall) .area (c .size)
 
--- ---- the clock in a mapper
-
-pub clock-fits : (m : Mapper) (k : Clock) → clockIn m ≡ timer.Clock k → mapper.fitRegisters m ≡ true → fitClock k ≡ true
-unfolding mbc3.fitRegisters
-clock-fits (NoMapper m) k e f = let z : _≡_ {A = ℕ} 0 1 = cc in absurd (omega arith)
-clock-fits (Mbc1 m) k e f = let z : _≡_ {A = ℕ} 0 1 = cc in absurd (omega arith)
-clock-fits (Mbc2 m) k e f = let z : _≡_ {A = ℕ} 0 1 = cc in absurd (omega arith)
-clock-fits (Mbc3 m) k e f = go (m .timer) e (both-right (both (fromOne 255 (m .bank)) (leb (m .ram) 3)) _ f)
-  where
-    go : (t : Bool) → pick t (timer.Clock (m .clock)) timer.Nothing ≡ timer.Clock k
-        → either (not t) (both (leb (m .register) 4) (fitClock (m .clock))) ≡ true → fitClock k ≡ true
-    go true p q = let same : m .clock ≡ k = cc in ap fitClock (sym same) ∙ both-right (leb (m .register) 4) (fitClock (m .clock)) q
-    go false p q = let z : _≡_ {A = ℕ} 0 1 = cc in absurd (omega arith)
-clock-fits (Mbc5 m) k e f = let z : _≡_ {A = ℕ} 0 1 = cc in absurd (omega arith)
-
-pub clock-with : (m : Mapper) (w : Clock) → hasClock (clockIn m) ≡ true → clockIn (withClock m w) ≡ timer.Clock w
-clock-with (NoMapper m) w e = false≢true e
-clock-with (Mbc1 m) w e = false≢true e
-clock-with (Mbc2 m) w e = false≢true e
-clock-with (Mbc3 m) w e = go (m .timer) e
-  where
-    go : (t : Bool) → hasClock (pick t (timer.Clock (m .clock)) timer.Nothing) ≡ true
-        → pick t (timer.Clock w) timer.Nothing ≡ timer.Clock w
-    go true p = refl
-    go false p = false≢true p
-clock-with (Mbc5 m) w e = false≢true e
-
 -- ---- the way back
 
 -- the fields of a fit clock's block fit their widths
@@ -204,29 +178,29 @@ stored : (k : Clock) (wall : ℕ) → wall ≤ k .time → timeOf (blockOf k wal
 unfolding blockOf
 stored k wall h = omega arith
 
-pub way-back : (c d : Cartridge) (k j : Clock) (ram rest : List ℕ) (wall : ℕ) → Timed c k (length ram) → Timed d j (length ram)
+pub way-back : (c d : Cartridge) (k j : Clock) (ram rest : List ℕ) (wall : ℕ) → Kept c k (length ram) → Kept d j (length ram)
     → wall ≤ k .time → k .time < 2 ^ 64 → Back k (loadOf d (length ram) (bytesOf (c .mapper) ram wall ++ rest) wall)
 way-back c d k j ram rest wall from to h l =
     let save = bytesOf (c .mapper) ram wall ++ rest in
     let b = blockOf k wall in
-    let f = clock-fits (c .mapper) k (from .clock) (fit-registers c (from .fit)) in
-    let bytes = behind-save (c .mapper) k ram rest wall (from .clock) in
+    let f = kept.clock-fits (c .mapper) k (from .timed .clock) (fit-registers c (from .timed .fit)) in
+    let bytes = behind-save (c .mapper) k ram rest wall (from .timed .clock) in
     let is : blockIn (drop (length ram) save) ≡ b = ap blockIn bytes ∙ block-back b rest (narrow k wall f l) in
     let long : length (drop (length ram) save) ≡ 21 + length rest =
     ap length bytes ∙ length-append (blockBytes b) rest ∙ ap (λ (n : ℕ). n + length rest) (length-block b) in
-    let has : hasClock (clockIn (d .mapper)) ≡ true = ap hasClock (to .clock) in
+    let has : hasClock (clockIn (d .mapper)) ≡ true = ap hasClock (to .timed .clock) in
     let time = kept-time k wall h in
     let woken = wokenOf (blockIn (drop (length ram) save)) wall in
     let r : woken .running ≡ takenOf b = ap (λ (x : Block). wokenOf x wall .running) is ∙ woken-same b wall (stored k wall h) in
     record {
       cart = withMapper d (withClock (d .mapper) woken);
-      whole = load-accepts d (length ram) save wall (to .fit) (eq-eqb _ _ (to .lent)) (to .battery)
+      whole = load-accepts d (length ram) save wall (to .timed .fit) (eq-eqb _ _ (to .lent)) (to .battery)
           (le-ltb (length save) (length ram) (omega (arith, length-drop (length ram) save, long)))
           (both-true has (le-leb 21 (length (drop (length ram) save)) (omega (arith, long))))
           (ap (λ (x : Block). beyond x) is ∙ ap not (taken-registers k wall f))
           (ap (λ (x : Block). late x wall) is ∙ le-ltb 18446744073709551615 (timeOf b wall) (omega (arith, time)));
       clock = woken;
-      has = clock-with (d .mapper) woken has;
+      has = kept.clock-with (d .mapper) woken has;
       shows = record {
         second = ap (λ (x : Registers). x .second) r ∙ taken-shows k wall .second;
         minute = ap (λ (x : Registers). x .minute) r ∙ taken-shows k wall .minute;
@@ -287,7 +261,7 @@ module _ (c d : Cartridge) (ram save : List ℕ) (wall : ℕ) (e : loadOf c (len
   unfolding bytesOf
   written =
       let has = both-left (hasClock (clockIn (c .mapper))) _ (taken .block) in
-      let clock = ap (λ (x : Cartridge). clockIn (x .mapper)) (taken .is) ∙ clock-with (c .mapper) (wokenOf (blockIn stands) wall) has in
+      let clock = ap (λ (x : Cartridge). clockIn (x .mapper)) (taken .is) ∙ kept.clock-with (c .mapper) (wokenOf (blockIn stands) wall) has in
       ap (λ (x : List ℕ). x ++ batteryBytes (clockIn (d .mapper)) wall) (whole-area c d ram save wall e)
       ∙ ap (λ (t : Timer). take (length ram) save ++ batteryBytes t wall) clock
 

@@ -50,8 +50,8 @@ use Rattle.access.specs.declared.Verdict.the-variants.{Rom, Ram, Refuse}
 use Rattle.bus.specs.declared.WriteAnswer.the-variants as write
 use Rattle.bus.specs.declared.Advanced.the-variants as advanced
 use Rattle.access.proofs.Laws.{rom-window, taken-fit, taken-lent}
-use Rattle.promises.specs.Calls.{AtMostOne}
-use Rattle.promises.proofs.MapperLaws as kept
+use Rattle.runs.specs.Calls.{AtMostOne}
+use Rattle.runs.proofs.MapperLaws as kept
 
 -- ---- another mapper in a fit cartridge
 

@@ -25,12 +25,12 @@ pub record Proper (r : Registers) : Type 0 where
   pub minute : r .minute < 60
   pub hour : r .hour < 24
 
--- the same second, minute, hour and day
+-- "the same second, minute, hour and day"
 pub record SameTime (r q : Registers) : Type 0 where
-  pub second : q .second ≡ r .second
-  pub minute : q .minute ≡ r .minute
-  pub hour : q .hour ≡ r .hour
-  pub day : q .day ≡ r .day
+  pub second : r .second ≡ q .second
+  pub minute : r .minute ≡ q .minute
+  pub hour : r .hour ≡ q .hour
+  pub day : r .day ≡ q .day
 
 -- mapper clocks in k seconds: "2,097,152 clocks a second"
 abbrev pub secondsOf : ℕ → ℕ

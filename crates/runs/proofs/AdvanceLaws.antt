@@ -1,0 +1,107 @@
+-- Advances of a cartridge: they are its clock's, and without a timer nothing. Assumes nothing.
+use mathlib.Core.Bool.{Bool, true, false, not}
+use mathlib.Core.List.{[], _∷_}
+use mathlib.Core.Path.{_≡_, refl, sym, ap, _∙_}
+use Prim.Native.Nat.{ℕ, zero, suc, _+_}
+use native.Mathlib.Numerals.{add-one}
+use Rattle.facts.specs.Choice.{pick}
+use Rattle.facts.specs.Refusals.{no, firstNo}
+use Rattle.clock.specs.Fit.{fitClock}
+use Rattle.clock.specs.Ticking as clock
+use Rattle.clock.specs.declared.Clock.{Clock}
+use Rattle.clock.specs.declared.AdvanceRefusal.the-variants.{Unfit, Late}
+use Rattle.clock.specs.declared.Advanced as declared
+use Rattle.clock.specs.declared.Advanced.the-variants as clocks
+use Rattle.mapper.specs.Mappers as mapper
+use Rattle.mapper.specs.declared.Mapper.{Mapper}
+use Rattle.battery.specs.Battery.{clockIn, hasClock, withClock}
+use Rattle.battery.specs.declared.Timer.{Timer}
+use Rattle.battery.specs.declared.Timer.the-variants as timer
+use Rattle.cartridge.specs.Fit.{fitCart}
+use Rattle.cartridge.specs.With.{withMapper}
+use Rattle.cartridge.specs.declared.Cartridge.{Cartridge}
+use Rattle.cartridge.proofs.Laws.{fit-registers}
+use Rattle.bus.specs.Advance.{advanceOf}
+use Rattle.bus.specs.declared.Advanced.{Advanced}
+use Rattle.bus.specs.declared.Advanced.the-variants.{To, Refuse}
+use Rattle.runs.specs.Time as time
+use Rattle.runs.specs.Advances.{Timed, withClockOf, fromClock, thenAdvance, singleAdvances}
+use Rattle.runs.proofs.MapperLaws as kept
+use Rattle.runs.proofs.BusLaws.{advance-fit}
+use Rattle.runs.proofs.TimeLaws.{joined}
+
+-- an unfit cartridge is refused with 13
+pub unfit-refused : (c : Cartridge) (n : ℕ) → fitCart c ≡ false → advanceOf c n ≡ Refuse Unfit
+unfolding advanceOf
+unfit-refused c n f = rw f refl
+
+-- the answer of a fit one, by its mapper's
+fit-answer : (c : Cartridge) (n : ℕ) → fitCart c ≡ true
+    → advanceOf c n ≡ pick (mapper.late (c .mapper) n) (Refuse Late) (To (withMapper c (mapper.clocksOn (c .mapper) n)))
+unfolding advanceOf
+fit-answer c n f =
+    ap (λ (t : Bool). firstNo Refuse (no (not t) Unfit ∷ no (mapper.late (c .mapper) n) Late ∷ []) (To (withMapper c (mapper.clocksOn (c .mapper) n)))) f
+
+-- with a timer it is the clock's, and all else stays
+pub clock-advance : (c : Cartridge) (k : Clock) (n : ℕ) → Timed c k → advanceOf c n ≡ fromClock c (clock.advanceOf k n)
+unfolding clock.advanceOf
+clock-advance c k n t =
+    let m = kept.clock-moves (c .mapper) k n (t .clock) in
+    let f = kept.clock-fits (c .mapper) k (t .clock) (fit-registers c (t .fit)) in
+    fit-answer c n (t .fit)
+    ∙ ap (λ (b : Bool). pick b (Refuse Late) (To (withMapper c (mapper.clocksOn (c .mapper) n)))) (m .0)
+    ∙ ap (λ (x : Mapper). pick (clock.late k n) (Refuse Late) (To (withMapper c x))) (m .1)
+    ∙ same (clock.late k n)
+    ∙ ap (λ (b : Bool). fromClock c (firstNo clocks.Refuse (no (not b) Unfit ∷ no (clock.late k n) Late ∷ []) (clocks.To (clock.ticks n k)))) (sym f)
+  where
+    same : (b : Bool) → pick b (Refuse Late) (To (withClockOf c (clock.ticks n k)))
+        ≡ fromClock c (pick b (clocks.Refuse Late) (clocks.To (clock.ticks n k)))
+    same true = refl
+    same false = refl
+
+-- without one nothing moves
+pub no-clock-advance : (c : Cartridge) (n : ℕ) → fitCart c ≡ true → clockIn (c .mapper) ≡ timer.Nothing → advanceOf c n ≡ To c
+no-clock-advance c n f e =
+    let m = kept.no-clock-stands (c .mapper) n e in
+    fit-answer c n f
+    ∙ ap (λ (b : Bool). pick b (Refuse Late) (To (withMapper c (mapper.clocksOn (c .mapper) n)))) (m .0)
+    ∙ ap (λ (x : Mapper). To (withMapper c x)) (m .1)
+
+-- the clock of an advanced cartridge is the clock advanced
+pub timed-on : (c : Cartridge) (k j : Clock) (n : ℕ) → Timed c k → advanceOf c n ≡ To (withClockOf c j) → Timed (withClockOf c j) j
+timed-on c k j n t e =
+    record {
+      fit = advance-fit c (withClockOf c j) n e;
+      clock = kept.clock-with (c .mapper) j (ap hasClock (t .clock));
+    }
+
+pub advances-joined : (c : Cartridge) (a b : ℕ) → advanceOf c (a + b) ≡ thenAdvance (advanceOf c a) b
+advances-joined c a b = go (fitCart c) (clockIn (c .mapper)) refl refl
+  where
+    from : (k : Clock) → Timed c k → (x : declared.Advanced) → clock.advanceOf k a ≡ x
+        → fromClock c (time.thenAdvance x b) ≡ thenAdvance (fromClock c x) b
+    from k t (clocks.To j) e =
+        let d = clock-advance c k a t ∙ ap (fromClock c) e in
+        sym (clock-advance (withClockOf c j) j b (timed-on c k j a t d) ∙ again j (clock.advanceOf j b))
+      where
+        again : (j : Clock) (x : declared.Advanced) → fromClock (withClockOf c j) x ≡ fromClock c x
+        again j (clocks.To i) = ap (λ (m : Mapper). To (withMapper c m)) (kept.with-clock-twice (c .mapper) j i)
+        again j (clocks.Refuse w) = refl
+    from k t (clocks.Refuse w) e = refl
+
+    go : (f : Bool) (s : Timer) → fitCart c ≡ f → clockIn (c .mapper) ≡ s → advanceOf c (a + b) ≡ thenAdvance (advanceOf c a) b
+    go false s p q = unfit-refused c (a + b) p ∙ ap (λ (x : Advanced). thenAdvance x b) (sym (unfit-refused c a p))
+    go true timer.Nothing p q =
+        no-clock-advance c (a + b) p q ∙ sym (no-clock-advance c b p q)
+        ∙ ap (λ (x : Advanced). thenAdvance x b) (sym (no-clock-advance c a p q))
+    go true (timer.Clock k) p q =
+        let t : Timed c k = record { fit = p; clock = q } in
+        clock-advance c k (a + b) t ∙ ap (fromClock c) (joined k a b) ∙ from k t (clock.advanceOf k a) refl
+        ∙ ap (λ (x : Advanced). thenAdvance x b) (sym (clock-advance c k a t))
+
+pub by-single-advances : (n : ℕ) (c : Cartridge) → advanceOf c n ≡ singleAdvances n c
+unfolding singleAdvances
+by-single-advances zero c = refl
+by-single-advances (suc n) c =
+    ap (advanceOf c) (sym (add-one n)) ∙ advances-joined c n 1
+    ∙ ap (λ (x : Advanced). thenAdvance x 1) (by-single-advances n c)

@@ -1,0 +1,6 @@
+pub mod Padded
+pub mod Limits
+pub mod Calls
+pub mod Time
+pub mod Advances
+pub mod Saves
