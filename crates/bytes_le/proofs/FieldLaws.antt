@@ -6,6 +6,7 @@ use native.Mathlib.Omega.{arith}
 use lib.ListN.{length, take, drop, length-drop}
 use lib.Seq.{sets, sets-eq, take-at, drop-at, drop-drop, length-take-le}
 use Rattle.bytes_le.specs.Little.{valueOf, bytesOf, fieldAt, putAt, Octets}
+use Rattle.bytes_le.proofs.OctetLaws.{octets-take, octets-drop}
 use Rattle.bytes_le.proofs.Laws.{room, length-bytes, sets-join, value-bytes}
 
 -- a field written, and then ys right behind it
@@ -51,16 +52,6 @@ value-back (b ∷ bs) o =
     ap (λ (x : ℕ). x ∷ bytesOf (length bs) ((b + 256 * valueOf bs) / 256)) low
     ∙ ap (λ (x : ℕ). b ∷ bytesOf (length bs) x) high
     ∙ ap (λ (l : List ℕ). b ∷ l) (value-back bs (o .1))
-
-pub octets-drop : (k : ℕ) (s : List ℕ) → Octets s → Octets (drop k s)
-octets-drop zero s o = o
-octets-drop (suc k) [] o = o
-octets-drop (suc k) (b ∷ bs) o = octets-drop k bs (o .1)
-
-octets-take : (k : ℕ) (s : List ℕ) → Octets s → Octets (take k s)
-octets-take zero s o = tt
-octets-take (suc k) [] o = o
-octets-take (suc k) (b ∷ bs) o = (o .0, octets-take k bs (o .1))
 
 -- the bytes of a field that was read are the field's
 pub bytes-field : (w : ℕ) (s : List ℕ) (at : ℕ) → Octets s → at + w ≤ length s → bytesOf w (fieldAt w s at) ≡ take w (drop at s)

@@ -93,3 +93,12 @@ none-if taken refuse no-refusal ts a e = go (none-or-first ts)
     go : (anyNo ts ≡ false) ⊎ First ts → anyNo ts ≡ false
     go (inl n) = n
     go (inr f) = false≢true (sym (no-refusal (f .test .why)) ∙ ap taken (sym (first-answers refuse a ts f)) ∙ e)
+
+-- a refusal that was given is the first's that holds, where no refusal is the accepted answer and no two are one
+pub given-first : {R A : Type 0} (refuse : R → A) (ts : List (No R)) (a : A) → ((v w : R) → refuse v ≡ refuse w → v ≡ w)
+    → ((w : R) → a ≡ refuse w → ⊥) → (w : R) → firstNo refuse ts a ≡ refuse w → (f : First ts) × (f .test .why ≡ w)
+given-first refuse ts a one apart w e = go (none-or-first ts)
+  where
+    go : (anyNo ts ≡ false) ⊎ First ts → (f : First ts) × (f .test .why ≡ w)
+    go (inl n) = absurd (apart w (sym (none-accepts refuse a ts n) ∙ e))
+    go (inr f) = (f, one (f .test .why) w (sym (first-answers refuse a ts f) ∙ e))

@@ -22,7 +22,6 @@ use Rattle.types.specs.declared.Kind.the-variants.{NoMapper, Mbc1, Mbc2, Mbc3, 
 use Rattle.header.specs.Size.{romSize, mends, romFits, ramSizes, ramSizeOf}
 use Rattle.header.specs.Check.{rowOf, foundOf, romLength, multicartOf, noes, factsOf, checkOf}
 use Rattle.header.specs.Accepted.{testsOf, Fitting}
-use Rattle.header.specs.declared.HeaderRefusal.{HeaderRefusal}
 use Rattle.header.specs.declared.HeaderRefusal.the-variants.{TooLong}
 use Rattle.header.specs.declared.Facts.{Facts}
 use Rattle.header.specs.declared.Checked.the-variants.{Accept, Refuse}
@@ -30,20 +29,13 @@ use Rattle.header.proofs.SizeLaws.{mends-power}
 
 -- ---- a refusal is the first test's that holds, and an accepted image has none
 
-pub refused-by : (s : List ℕ) (f : First (testsOf s)) → checkOf s ≡ Refuse (f .test .why)
+refused-by : (s : List ℕ) (f : First (testsOf s)) → checkOf s ≡ Refuse (f .test .why)
 unfolding checkOf
 refused-by s f = first-answers Refuse (Accept (factsOf s (rowOf (foundOf s)))) (testsOf s) f
 
-pub accepted-if : (s : List ℕ) → anyNo (testsOf s) ≡ false → checkOf s ≡ Accept (factsOf s (rowOf (foundOf s)))
+accepted-if : (s : List ℕ) → anyNo (testsOf s) ≡ false → checkOf s ≡ Accept (factsOf s (rowOf (foundOf s)))
 unfolding checkOf
 accepted-if s n = none-accepts Refuse (Accept (factsOf s (rowOf (foundOf s)))) (testsOf s) n
-
-pub refused-only : (s : List ℕ) (w : HeaderRefusal) → checkOf s ≡ Refuse w → (f : First (testsOf s)) × (f .test .why ≡ w)
-refused-only s w e = go (none-or-first (testsOf s))
-  where
-    go : (anyNo (testsOf s) ≡ false) ⊎ First (testsOf s) → (f : First (testsOf s)) × (f .test .why ≡ w)
-    go (inl n) = let a = accepted-if s n in let z : _≡_ {A = ℕ} 0 1 = cc in absurd (omega arith)
-    go (inr f) = let r = refused-by s f in (f, cc)
 
 pub accepted-only : (s : List ℕ) (d : Facts) → checkOf s ≡ Accept d
     → (anyNo (testsOf s) ≡ false) × (d ≡ factsOf s (rowOf (foundOf s)))

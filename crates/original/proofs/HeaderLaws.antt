@@ -14,6 +14,7 @@ use lib.Pow.{shl-exact, pow-pos, pow-lt}
 use borrow.Author.Tests.{eq-eqb, ne-eqb, eqb-true, eqb-false, lt-ltb, le-ltb, ltb-true, ltb-false, le-leb, lt-leb}
 use Rattle.facts.specs.Choice.{pick, both, either}
 use Rattle.facts.proofs.BitLaws.{bit-test}
+use Rattle.bytes_le.specs.Little.{Octets}
 use Rattle.utf8.specs.Utf8.{isUtf8}
 use Rattle.image.specs.Image.{byteAt, paddedLength, logoAt, isMulticart, checksumOf, titleOf, isColour}
 use Rattle.image.proofs.ImageLaws.{padded-le}
@@ -67,7 +68,6 @@ use Rattle.original.specs.Cartridge.{
   checksumFrom,
   checkSum,
 }
-use Rattle.original.specs.Same.{Octets}
 use Rattle.original.specs.Verdict.{mapperType}
 use Rattle.original.proofs.MachineLaws.{div-ok, slice-ok}
 use Rattle.original.proofs.ImageLaws.{at-least, part, slice-part, index-byte, logo-same, title-same, sum-same}

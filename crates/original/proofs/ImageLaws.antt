@@ -10,13 +10,14 @@ use lib.ListN.{length, take, drop, replicate, length-append, length-replicate}
 use lib.Seq.{drop-cons, take-nil, drop-nil}
 use borrow.Author.Tests.{eqb-true, eqb-false, ltb-true, ltb-false}
 use Rattle.facts.specs.Choice.{pick, both}
+use Rattle.bytes_le.specs.Little.{Octets}
+use Rattle.bytes_le.proofs.OctetLaws.{octets-at}
 use Rattle.image.specs.Image.{byteAt, paddedLength, logo, standsAt, logoAt, sumFrom, checksumOf, upToZero, titleOf}
 use Rattle.image.proofs.ImageLaws.{left-all}
 use Rattle.runs.specs.Padded.{padded}
 use Rattle.runs.proofs.ImageLaws.{padded-length, padded-byte}
 use Rattle.original.specs.Machine.{ok, slice, index, same, takeWhile, wrappingSub, isMultipleOf}
 use Rattle.original.specs.Cartridge.{nintendoLogoData, extended, checksumFrom}
-use Rattle.original.specs.Same.{Octets}
 use Rattle.original.proofs.MachineLaws.{index-ok, slice-ok}
 
 -- ---- the extension
@@ -188,7 +189,7 @@ sum-left s (suc n) a c o =
     let e : sumFrom s a (suc n) + suc n ≡ sumFrom s (suc a) n + n + (byteAt s a + 1) = omega (arith, sum-front s a n) in
     ap (λ (y : ℕ). (checksumFrom d (part s n (suc a)) + y) % 256) e
     ∙ joined (checksumFrom d (part s n (suc a))) (sumFrom s (suc a) n + n) (byteAt s a) c (wrappingSub c (byteAt s a)) d i
-    (back (wrappingSub c (byteAt s a)) 1 (omega arith)) (back c (byteAt s a) (o a))
+    (back (wrappingSub c (byteAt s a)) 1 (omega arith)) (back c (byteAt s a) (octets-at s o a))
 
 pub sum-same : (s : List ℕ) → Octets s → checksumFrom 0 (part s 25 0x134) ≡ checksumOf s
 sum-same s o = left-all s (checksumFrom 0 (part s 25 0x134)) 25 (sum-lt (part s 25 0x134) 0 (omega arith)) refl

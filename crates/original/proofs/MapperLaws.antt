@@ -10,6 +10,7 @@ use lib.Seq.{take-all, length-take-le, take-at, drop-at, getD-drop}
 use Rattle.facts.specs.Choice.{pick, both}
 use Rattle.facts.proofs.ChoiceLaws.{both-left, not-true}
 use Rattle.facts.proofs.ListLaws.{one-of-le}
+use Rattle.bytes_le.proofs.OctetLaws.{octets-drop}
 use Rattle.banking.specs.Banks.{Inside, romPlace, ramPlace}
 use Rattle.banking.specs.declared.RamAt.{RamAt}
 use Rattle.banking.specs.declared.RamAt.the-variants as at
@@ -365,7 +366,7 @@ read-same (Mbc2 m) o past {banks} {size} {area} f s addr i =
           ap (λ (x : original.Mapper). original.mapRamRead x addr) s
           ∙ ap (boxedResult original.Mbc2)
           (mbc2.read-same banks (drop size area) m addr (half-long size area (f .long))
-          (λ i. rw getD-drop (f .octets (size + i))));
+          (octets-drop size area (f .octets)));
       byte = half-byte m (take size area) (drop size area) addr;
       same = refl;
     }

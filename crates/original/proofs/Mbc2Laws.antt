@@ -9,6 +9,8 @@ use lib.Dec.{eqb}
 use lib.ListN.{length, getD, set}
 use Rattle.facts.specs.Choice.{pick}
 use Rattle.facts.proofs.ChoiceLaws.{eqb-iff}
+use Rattle.bytes_le.specs.Little.{Octets}
+use Rattle.bytes_le.proofs.OctetLaws.{octets-at}
 use Rattle.banking.specs.Banks.{orOne, romPlace}
 use Rattle.mbc2.specs.Registers as our
 use Rattle.mbc2.specs.declared.Mbc2 as declared
@@ -16,7 +18,7 @@ use Rattle.mbc2.proofs.Laws.{high-nibble}
 use Rattle.original.specs.Machine.{Outcome, ok, bind, index, store}
 use Rattle.original.specs.MappingResult.{Mapped, mapped, Value, NotMapped}
 use Rattle.original.specs.Mbc2.{Mbc2, mbc2, mapReadRom0, mapReadRomx, mapRamRead, mapRamWrite, writeBankControllerRegister}
-use Rattle.original.specs.Same.{Octets, mbc2Of}
+use Rattle.original.specs.Same.{mbc2Of}
 use Rattle.original.proofs.MachineLaws.{index-ok, store-ok, arm, up-to, rom-first, rom-banked}
 
 module _ (banks : ℕ) (half : List ℕ) (m : declared.Mbc2) where
@@ -42,7 +44,7 @@ module _ (banks : ℕ) (half : List ℕ) (m : declared.Mbc2) where
       at = and-mask addr 9
 
       nibble : bitOr 0xF0 (getD half (addr % 512) 0) ≡ 0xF0 + getD half (addr % 512) 0 % 16
-      nibble = or-comm 0xF0 (getD half (addr % 512) 0) ∙ high-nibble (getD half (addr % 512) 0) (octets (addr % 512))
+      nibble = or-comm 0xF0 (getD half (addr % 512) 0) ∙ high-nibble (getD half (addr % 512) 0) (octets-at half octets (addr % 512))
 
       go : (t : Bool)
           → pick t (bind (index half (bitAnd addr 0x1FF)) (λ byte. ok (mapped self (Value (bitOr 0xF0 byte)))))

@@ -5,6 +5,7 @@ use mathlib.Core.Path.{_≡_, ap, _∙_}
 use Prim.Native.Nat.{ℕ, _*_, _<_}
 use lib.ListN.{length, getD}
 use lib.Seq.{getD-take}
+use Rattle.bytes_le.specs.Little.{Octets}
 use Rattle.header.specs.Check as header
 use Rattle.header.specs.Check.{checkOf}
 use Rattle.header.specs.declared.HeaderRefusal.{HeaderRefusal}
@@ -22,7 +23,7 @@ use Rattle.runs.proofs.ImageLaws.{padded-length}
 use Rattle.runs.proofs.RunLaws.{mount-ready}
 use Rattle.original.specs.Machine.{ok, panic}
 use Rattle.original.specs.Cartridge.{Cartridge, CartridgeError, taken, error, fromFile}
-use Rattle.original.specs.Same.{Same, Octets}
+use Rattle.original.specs.Same.{Same}
 use Rattle.original.specs.Domain.{Since, since, sinceAfter, Allowed, InDomain}
 use Rattle.original.specs.Verdict.{numberOf, cartridgeOf, ImageInDomain, SameVerdict}
 use Rattle.original.proofs.VerdictLaws as verdict

@@ -243,7 +243,7 @@ shared-by r h n k c =
     record {
       rom = refl;
       ram = refl;
-      octets = λ i. omega arith;
+      octets = tt;
       mapper = (rustOf r, refl, record { rtc = rtcAt r; is = refl; clocked = follows; register = n; few = k });
     }
 

@@ -7,6 +7,8 @@ use native.Mathlib.Nat.{zero-add, suc-add}
 use native.Mathlib.Omega.{arith}
 use lib.ListN.{length, getD, take, drop, replicate}
 use Rattle.facts.proofs.ListLaws.{one-of-le}
+use Rattle.bytes_le.specs.Little.{Octets}
+use Rattle.bytes_le.proofs.OctetLaws.{octets-zeros}
 use Rattle.types.specs.declared.Kind.{Kind}
 use Rattle.types.specs.declared.Kind.the-variants as kind
 use Rattle.header.specs.Size.{ramSizes}
@@ -30,7 +32,7 @@ use Rattle.original.specs.Machine.{Outcome, ok}
 use Rattle.original.specs.Mbc3 as mbc3
 use Rattle.original.specs.Mapper as original
 use Rattle.original.specs.Cartridge.{Cartridge, taken, fromFile}
-use Rattle.original.specs.Same.{mbc2Of, SameMapper, Same, Octets}
+use Rattle.original.specs.Same.{mbc2Of, SameMapper, Same}
 use Rattle.original.specs.Verdict.{mapperOf, valueOr, mbc3Start, cartridgeOf}
 use Rattle.original.specs.Domain.{since}
 use Rattle.original.specs.Follows as follows
@@ -41,11 +43,6 @@ use Rattle.original.proofs.VerdictLaws.{same-verdict, taken-by, accepte
 
 abbrev zeros : ℕ → List ℕ
 zeros n = replicate n 0
-
-zero-byte : (n i : ℕ) → _≡_ {A = ℕ} (getD (replicate n 0) i 0) 0
-zero-byte zero i = refl
-zero-byte (suc n) zero = refl
-zero-byte (suc n) (suc i) = zero-byte n i
 
 zeros-taken : (n m : ℕ) → n ≤ m → _≡_ {A = List ℕ} (take n (replicate m 0)) (replicate n 0)
 zeros-taken zero m h = refl
@@ -99,7 +96,7 @@ start-cart image n wall d c p =
     record {
       rom = refl;
       ram = sym (zeros-taken (d .size) _ (room (d .kind) (d .multicart) (d .size) wall));
-      octets = λ i. rw (zero-byte (mapper.areaOf (startOf (d .kind) (d .multicart) wall) (d .size)) i) (omega arith);
+      octets = octets-zeros (mapper.areaOf (startOf (d .kind) (d .multicart) wall) (d .size));
       mapper = start-mapper (d .kind) (d .multicart) (d .banks) (d .size) wall c p;
     }
 

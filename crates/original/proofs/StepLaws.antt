@@ -13,6 +13,8 @@ use Rattle.facts.specs.Choice.{pick, both, either}
 use Rattle.facts.specs.Listed.{oneOf}
 use Rattle.facts.proofs.ChoiceLaws.{both-true, both-parts, not-true, pick-has}
 use Rattle.facts.proofs.ListLaws.{part-set}
+use Rattle.bytes_le.specs.Little.{Octets}
+use Rattle.bytes_le.proofs.OctetLaws.{octets-set}
 use Rattle.banking.specs.Banks.{romPlace}
 use Rattle.banking.specs.declared.RamAt.the-variants as at
 use Rattle.banking.proofs.Laws.{rom-inside}
@@ -49,21 +51,13 @@ use Rattle.original.specs.MappingResult.{Mapped, mapped}
 use Rattle.original.specs.Mapper as original
 use Rattle.original.specs.Cartridge as cartridge
 use Rattle.original.specs.Cartridge.{Cartridge, Read, readAt, writeAt, readRom0, readRomx, writeToBankController, readRam, writeRam, clockMapper}
-use Rattle.original.specs.Same.{Same, Fit, Octets}
+use Rattle.original.specs.Same.{Same, Fit}
 use Rattle.original.specs.Step.{Left, left, clocksOf, originalStep, Ran, originalRun}
 use Rattle.original.specs.Domain.{Since, sinceAfter, Allowed, InDomain}
 use Rattle.original.proofs.MachineLaws.{index-ok, inside, outside, arm-cases}
 use Rattle.original.proofs.MapperLaws.{rom0-same, romx-same, register-same, read-same, write-same, mapperClocks, clocks-same, past-write, past-rom, early}
 
 -- ---- bytes stay bytes
-
-pub octets-set : (s : List ℕ) (k v : ℕ) → Octets s → v < 256 → Octets (set s k v)
-octets-set s k v o h i = go (eqb i k) (ltb k (length s)) refl refl
-  where
-    go : (t u : Bool) → eqb i k ≡ t → ltb k (length s) ≡ u → getD (set s k v) i 0 < 256
-    go false u e f = rw (getD-set-other s k i v 0 (eqb-false i k e)) (o i)
-    go true true e f = rw (eqb-true i k e, getD-set-same s k v 0 (ltb-true k (length s) f)) h
-    go true false e f = rw (set-out s k v (ltb-false k (length s) f)) (o i)
 
 half-octets : (m : declared2.Mbc2) (size : ℕ) (area : List ℕ) (addr byte : ℕ) → Octets area
     → Octets (take size area ++ our2.halfAfter m (drop size area) addr byte)

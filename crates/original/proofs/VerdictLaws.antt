@@ -10,6 +10,7 @@ use lib.ListN.{length, replicate}
 use borrow.Author.Tests.{eq-eqb, le-leb, le-ltb}
 use Rattle.facts.specs.Choice.{pick, both}
 use Rattle.facts.proofs.ChoiceLaws.{false≢true}
+use Rattle.bytes_le.specs.Little.{Octets}
 use Rattle.utf8.specs.Utf8.{isUtf8}
 use Rattle.image.specs.Image.{byteAt, logoAt, checksumOf, titleOf, isColour}
 use Rattle.image.proofs.ImageLaws.{padded-le}
@@ -67,7 +68,6 @@ use Rattle.original.specs.Cartridge.{
   startMapper,
   fromFile,
 }
-use Rattle.original.specs.Same.{Octets}
 use Rattle.original.specs.Verdict.{numberOf, mapperType, mapperOf, cartridgeOf, SameVerdict, takes, errs}
 use Rattle.original.proofs.ImageLaws.{extended-same}
 use Rattle.original.proofs.HeaderLaws.{logo-part, title-part, device-part, typeOfRow, type-part, rom-part, ram-part, sum-part}

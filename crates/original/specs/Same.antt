@@ -5,8 +5,9 @@ use mathlib.Core.List.{List}
 use mathlib.Core.Path.{_≡_}
 use Prim.Native.Nat.{ℕ, _/_, _<_}
 use lib.Dec.{eqb}
-use lib.ListN.{getD, length, take, drop}
+use lib.ListN.{length, take, drop}
 use Rattle.facts.specs.Listed.{oneOf}
+use Rattle.bytes_le.specs.Little.{Octets}
 use Rattle.header.specs.Size.{ramSizes}
 use Rattle.mbc1.specs.declared.Mbc1 as our1
 use Rattle.mbc2.specs.declared.Mbc2 as our2
@@ -52,10 +53,6 @@ SameMapper banks size area s (Mbc3 m) o = (x : mbc3.Mbc3) × (o ≡ original.Mbc
 SameMapper banks size area s (Mbc5 m) o = (rumble : Bool) × (o ≡ original.Mbc5 (mbc5Of banks size rumble m))
 
 -- ---- the machine
-
--- bytes of eight bits
-abbrev pub Octets : List ℕ → Type 0
-Octets s = (i : ℕ) → getD s i 0 < 256
 
 -- the padded image, the header's RAM size from the area's start on, and the mapper
 pub record Same (image : List ℕ) (s : Since) (m : Machine) (o : Cartridge) : Type 0 where

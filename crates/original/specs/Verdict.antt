@@ -5,6 +5,7 @@ use mathlib.Core.Path.{_≡_}
 use Prim.Native.Nat.{ℕ, _≤_}
 use lib.ListN.{length, replicate}
 use Rattle.facts.specs.Choice.{pick}
+use Rattle.bytes_le.specs.Little.{Octets}
 use Rattle.image.specs.Image.{titleOf}
 use Rattle.types.specs.declared.Kind.{Kind}
 use Rattle.types.specs.declared.Kind.the-variants as kind
@@ -41,7 +42,7 @@ use Rattle.original.specs.Cartridge.{
   taken,
   error,
 }
-use Rattle.original.specs.Same.{noneOf, mbc1Of, mbc2Of, mbc5Of, Octets}
+use Rattle.original.specs.Same.{noneOf, mbc1Of, mbc2Of, mbc5Of}
 
 -- document 01's number of each error
 abbrev pub numberOf : CartridgeError → ℕ

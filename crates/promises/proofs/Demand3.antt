@@ -1,13 +1,12 @@
 -- Demand 3: "For any clock whose registers fit their widths, second 61 included, advancing by n equals n single ticks;
--- by a and then b equals a+b; 44,236,800 seconds is the period, no less." The theorems speak of `advanceOf`, `shownOf`,
--- `writtenOf`, `latchedOf` and `forwardOf`: the contracts of the crate clock say that the code's answers equal these.
--- Assumes nothing.
+-- by a and then b equals a+b; 44,236,800 seconds is the period, no less." First of a clock, then of a cartridge as the player
+-- advances it. The theorems speak of the clock's `advanceOf`, `shownOf`, `writtenOf`, `latchedOf` and `forwardOf` and of the bus's
+-- `advanceOf` (here `advances.advanceOf`): the contracts say that the code's answers equal these. Assumes nothing.
 use mathlib.Core.Bool.{Bool, true, false}
 use mathlib.Core.Logic.{_↔_}
 use mathlib.Core.Path.{_≡_, refl, sym, ap, _∙_, subst}
 use Prim.Native.Nat.{ℕ, _+_, _/_, _%_, _<_, _≤_}
 use lib.ListN.{getD}
-use Rattle.facts.proofs.ChoiceLaws.{coincide}
 use Rattle.clock_registers.specs.Fit.{fitRegisters}
 use Rattle.clock.specs.Fit.{fitClock}
 use Rattle.clock_registers.specs.Seconds.{forwardOf}
@@ -16,20 +15,27 @@ use Rattle.clock_registers.specs.Access.{registers}
 use Rattle.clock.specs.Access.{startAt, shownOf, writtenOf, latchedOf}
 use Rattle.clock_registers.specs.declared.Registers.{Registers}
 use Rattle.clock.specs.declared.Clock.{Clock}
-use Rattle.clock.specs.declared.AdvanceRefusal.the-variants.{Unfit, Late}
-use Rattle.clock.specs.declared.Advanced.{Advanced}
+use Rattle.clock.specs.declared.AdvanceRefusal.the-variants.{Late}
 use Rattle.clock.specs.declared.Advanced.the-variants.{To, Refuse}
-use Rattle.clock_registers.specs.declared.Stepped.{Stepped}
 use Rattle.clock_registers.specs.declared.Stepped.the-variants as stepped
-use Rattle.clock.specs.declared.Shown.{Shown}
 use Rattle.clock.specs.declared.Shown.the-variants as shown
-use Rattle.clock.specs.declared.Written.{Written}
 use Rattle.clock.specs.declared.Written.the-variants as written
 use Rattle.clock.proofs.FitLaws.{fit-parts}
 use Rattle.clock.proofs.AnswerLaws.{halted-answer}
 use Rattle.clock.proofs.KeptLaws.{advance-taken, advance-fit, write-fit, latch-fit, start-fit}
 use Rattle.clock_registers.proofs.KeptLaws.{forward-fit}
-use Rattle.runs.specs.Time.{thenAdvance, singleTicks, Proper, SameTime, secondsOf, period, keeps}
+use Rattle.battery.specs.Battery.{clockIn}
+use Rattle.battery.specs.declared.Timer.the-variants as timer
+use Rattle.cartridge.specs.Fit.{fitCart}
+use Rattle.cartridge.specs.declared.Cartridge.{Cartridge}
+use Rattle.cartridge.proofs.Laws.{fit-registers}
+use Rattle.bus.specs.Advance as advances
+use Rattle.bus.specs.declared.Advanced.the-variants as advanced
+use Rattle.runs.specs.Time.{thenAdvance, singleTicks, Proper, SameTime, secondsOf, period, periodOn, keeps}
+use Rattle.runs.specs.Advances as cartridge
+use Rattle.runs.specs.Advances.{Timed, withClockOf, fromClock, singleAdvances}
+use Rattle.runs.proofs.MapperLaws.{clock-fits}
+use Rattle.runs.proofs.AdvanceLaws as laws
 use Rattle.runs.proofs.TimeLaws.{
   joined,
   by-singles,
@@ -66,14 +72,7 @@ advances-join = joined
 -- 3. 44,236,800 seconds bring back second, minute, hour and day, with the carry set,
 pub period-comes-back : (c : Clock) → fitClock c ≡ true → Proper (c .running) → c .running .halt ≡ false
     → c .time + period ≤ 18446744073709551615
-    → advanceOf c (secondsOf period)
-    ≡ To (record {
-      running = registers (c .running .second) (c .running .minute) (c .running .hour) (c .running .day) false true;
-      sub = c .sub;
-      time = c .time + period;
-      latched = c .latched;
-      frozen = c .frozen;
-    })
+    → advanceOf c (secondsOf period) ≡ To (periodOn c)
 period-comes-back c f p h t =
     let r = c .running in
     taken-seconds c period f h t
@@ -82,10 +81,10 @@ period-comes-back c f p h t =
 
 -- and no smaller positive number of seconds does.
 pub period-is-least : (c d : Clock) (k : ℕ) → fitClock c ≡ true → Proper (c .running) → c .running .halt ≡ false
-    → 0 < k → k < period → advanceOf c (secondsOf k) ≡ To d → SameTime (c .running) (d .running) → ⊥
+    → 0 < k → k < period → advanceOf c (secondsOf k) ≡ To d → SameTime (d .running) (c .running) → ⊥
 period-is-least c d k f p h pos less e same =
     let q = advance-taken c d (secondsOf k) e .is ∙ whole-seconds c k f h in
-    no-sooner (c .running) (fit-parts c f .running) p k pos less (subst (λ (x : Clock). SameTime (c .running) (x .running)) q same)
+    no-sooner (c .running) (fit-parts c f .running) p k pos less (subst (λ (x : Clock). SameTime (x .running) (c .running)) q same)
 
 -- 4. A fit clock stays fit under every operation,
 pub advance-stays-fit : (c d : Clock) (n : ℕ) → advanceOf c n ≡ To d → fitClock d ≡ true
@@ -130,18 +129,57 @@ write-reads-back = written-reading
 pub frozen-shows-copy : (c d : Clock) (n k : ℕ) → c .latched ≡ true → advanceOf c n ≡ To d → shownOf d k ≡ shownOf c k
 frozen-shows-copy = frozen-reading
 
--- 6. Any two answers that a contract allows coincide.
-pub advance-coincides : (c : Clock) (n : ℕ) (x y : Advanced) → x ≡ advanceOf c n → y ≡ advanceOf c n → x ≡ y
-advance-coincides c n x y = coincide
+-- the clock of a fit cartridge is fit
+timed-fit : (c : Cartridge) (k : Clock) → Timed c k → fitClock k ≡ true
+timed-fit c k t = clock-fits (c .mapper) k (t .clock) (fit-registers c (t .fit))
 
-pub forward-coincides : (r : Registers) (n : ℕ) (x y : Stepped) → x ≡ forwardOf r n → y ≡ forwardOf r n → x ≡ y
-forward-coincides r n x y = coincide
+-- 6. As the player calls it: "on a cartridge with a timer that 13 doesn't refuse, an accepted advance changes the clock just so and
+-- nothing else". The answer is the clock's, refusals included, and in an accepted one the clock alone is another;
+pub cartridge-advance-is-clocks : (c : Cartridge) (k : Clock) (n : ℕ) → Timed c k
+    → advances.advanceOf c n ≡ fromClock c (advanceOf k n)
+cartridge-advance-is-clocks = laws.clock-advance
 
-pub read-coincides : (c : Clock) (n : ℕ) (x y : Shown) → x ≡ shownOf c n → y ≡ shownOf c n → x ≡ y
-read-coincides c n x y = coincide
+-- "Without a timer an advance is accepted and changes nothing."
+pub cartridge-without-timer : (c : Cartridge) (n : ℕ) → fitCart c ≡ true → clockIn (c .mapper) ≡ timer.Nothing
+    → advances.advanceOf c n ≡ advanced.To c
+cartridge-without-timer = laws.no-clock-advance
 
-pub write-coincides : (c : Clock) (n b : ℕ) (x y : Written) → x ≡ writtenOf c n b → y ≡ writtenOf c n b → x ≡ y
-write-coincides c n b x y = coincide
+-- "advancing by n equals n single ticks": the ticks of its clock, unless they would carry the time past 2^64 - 1,
+pub cartridge-advance-is-ticks : (c : Cartridge) (k : Clock) (n : ℕ) → Timed c k
+    → (advances.advanceOf c n ≡ advanced.To (withClockOf c (ticks n k))) ↔ (ticks n k .time ≤ 18446744073709551615)
+cartridge-advance-is-ticks c k n t = (
+  (λ e. let x = laws.timed-taken c k n t _ e in advance-taken k (x .clock) n (x .taken) .room),
+  (λ h. laws.clock-advance c k n t ∙ ap (fromClock c) (taken-exactly k n (timed-fit c k t) .1 h)),
+)
 
-pub latch-coincides : (c : Clock) (b : ℕ) (x y : Clock) → x ≡ latchedOf c b → y ≡ latchedOf c b → x ≡ y
-latch-coincides c b x y = coincide
+-- and exactly then the number is 17;
+pub cartridge-refused-where-time-passes : (c : Cartridge) (k : Clock) (n : ℕ) → Timed c k
+    → (advances.advanceOf c n ≡ advanced.Refuse Late) ↔ (18446744073709551615 < ticks n k .time)
+cartridge-refused-where-time-passes c k n t = (
+  (λ e. late-exactly k n (timed-fit c k t) .0 (laws.timed-late c k n t e)),
+  (λ h. laws.clock-advance c k n t ∙ ap (fromClock c) (late-exactly k n (timed-fit c k t) .1 h)),
+)
+
+-- n advances by one clock give the same answer, of every cartridge, fit or not, with a timer or without one.
+pub cartridge-advance-is-single-advances : (n : ℕ) (c : Cartridge) → advances.advanceOf c n ≡ singleAdvances n c
+cartridge-advance-is-single-advances = laws.by-single-advances
+
+-- "by a and then b equals a+b", of every cartridge: a refusal on the way is the refusal.
+pub cartridge-advances-join : (c : Cartridge) (a b : ℕ)
+    → advances.advanceOf c (a + b) ≡ cartridge.thenAdvance (advances.advanceOf c a) b
+cartridge-advances-join = laws.advances-joined
+
+-- "44,236,800 seconds is the period,
+pub cartridge-period-comes-back : (c : Cartridge) (k : Clock) → Timed c k → Proper (k .running) → k .running .halt ≡ false
+    → k .time + period ≤ 18446744073709551615 → advances.advanceOf c (secondsOf period) ≡ advanced.To (withClockOf c (periodOn k))
+cartridge-period-comes-back c k t p h m =
+    laws.clock-advance c k (secondsOf period) t ∙ ap (fromClock c) (period-comes-back k (timed-fit c k t) p h m)
+
+-- no less."
+pub cartridge-period-is-least : (c d : Cartridge) (k j : Clock) (s : ℕ) → Timed c k → Proper (k .running)
+    → k .running .halt ≡ false → 0 < s → s < period → advances.advanceOf c (secondsOf s) ≡ advanced.To d
+    → clockIn (d .mapper) ≡ timer.Clock j → SameTime (j .running) (k .running) → ⊥
+cartridge-period-is-least c d k j s t p h pos less e i same =
+    let x = laws.timed-taken c k (secondsOf s) t d e in
+    let q = laws.timed-clock c k (secondsOf s) t j d x i in
+    period-is-least k j s (timed-fit c k t) p h pos less (x .taken ∙ ap To q) same

@@ -1,11 +1,7 @@
-pub mod TimeLaws
+pub mod RefusingLaws
+pub mod Demand1
+pub mod Demand2
 pub mod Demand3
-pub mod ImageLaws
-pub mod Verdict
-pub mod Bench
-pub mod MapperLaws
-pub mod BusLaws
-pub mod RunLaws
-pub mod Bus
-pub mod SaveLaws
 pub mod Save
+pub mod Bench
+pub mod Coincide

@@ -1,6 +1,6 @@
 -- The save file: "Nothing may be lost by a bad file, a short buffer or a long sleep." The theorems speak of `saveOf`, `roomAfter`,
 -- `loadOf` and `areaAfter`: the contracts of `save_file::save` and `save_file::load` say that the code's answers, every byte of the
--- lent room and every byte of the lent RAM area equal these on all inputs. Assumes nothing.
+-- lent room and every byte of the lent RAM area equal these on all inputs. Which calls are refused stands in Demand1. Assumes nothing.
 use mathlib.Core.Bool.{Bool, true, false}
 use mathlib.Core.List.{List, [], _∷_, _++_, map}
 use mathlib.Core.Path.{_≡_, refl, ap}
@@ -30,55 +30,10 @@ use Rattle.save_file.specs.declared.Loaded.{Loaded}
 use Rattle.save_file.specs.declared.Loaded.the-variants.{Whole, Refuse}
 use Rattle.bus.specs.Run.{Machine}
 use Rattle.runs.specs.Calls.{Ready}
-use Rattle.runs.specs.Saves.{Timed, Back}
+use Rattle.runs.specs.Saves.{Kept, Back}
 use Rattle.runs.proofs.SaveLaws as laws
 
--- 1. The numbers stand in their order: 13, 14, 18, 21 out, and 13, 14, 18, 19, 20, 17 in,
-pub save-numbers-in-order : (c : Cartridge) (ram : List ℕ) (room wall : ℕ)
-    → map (λ (t : No SaveRefusal). numberOf (t .why)) (saveNoes c ram room wall) ≡ 13 ∷ 14 ∷ 18 ∷ 21 ∷ []
-unfolding saveNoes admitNoes
-save-numbers-in-order c ram room wall = refl
-
-pub load-numbers-in-order : (c : Cartridge) (area : ℕ) (save : List ℕ) (wall : ℕ) → hasBlock (c .mapper) (drop area save) ≡ true
-    → map (λ (t : No SaveRefusal). numberOf (t .why)) (loadNoes c area save wall) ≡ 13 ∷ 14 ∷ 18 ∷ 19 ∷ 20 ∷ 17 ∷ []
-load-numbers-in-order c area save wall h = ap (map (λ (t : No SaveRefusal). numberOf (t .why))) (laws.noes-by c area save wall h)
-
--- the first of them that holds is the answer,
-pub save-first-is-given : (c : Cartridge) (ram : List ℕ) (room wall : ℕ) (f : First (saveNoes c ram room wall))
-    → saveOf c ram room wall ≡ saved.Refuse (f .test .why)
-unfolding saveOf
-save-first-is-given c ram room wall f =
-    first-answers saved.Refuse (saved.Wrote (length (bytesOf (c .mapper) ram wall))) (saveNoes c ram room wall) f
-
-pub load-first-is-given : (c : Cartridge) (area : ℕ) (save : List ℕ) (wall : ℕ) (f : First (loadNoes c area save wall))
-    → loadOf c area save wall ≡ Refuse (f .test .why)
-unfolding loadOf
-load-first-is-given c area save wall f = first-answers Refuse (acceptedOf c (drop area save) wall) (loadNoes c area save wall) f
-
--- where none holds the save is made, the load too,
-pub saved-where-none : (c : Cartridge) (ram : List ℕ) (room wall : ℕ) → anyNo (saveNoes c ram room wall) ≡ false
-    → saveOf c ram room wall ≡ saved.Wrote (length (bytesOf (c .mapper) ram wall))
-unfolding saveOf
-saved-where-none c ram room wall n =
-    none-accepts saved.Refuse (saved.Wrote (length (bytesOf (c .mapper) ram wall))) (saveNoes c ram room wall) n
-
-pub loaded-where-none : (c : Cartridge) (area : ℕ) (save : List ℕ) (wall : ℕ) → anyNo (loadNoes c area save wall) ≡ false
-    → loadOf c area save wall ≡ acceptedOf c (drop area save) wall
-unfolding loadOf
-loaded-where-none c area save wall n = none-accepts Refuse (acceptedOf c (drop area save) wall) (loadNoes c area save wall) n
-
--- and a refusal changes no byte; it hands back no state, so the caller's stays.
-pub refused-save-changes-nothing : (c : Cartridge) (ram room : List ℕ) (wall : ℕ) (w : SaveRefusal)
-    → saveOf c ram (length room) wall ≡ saved.Refuse w → roomAfter c ram room wall ≡ room
-unfolding roomAfter
-refused-save-changes-nothing c ram room wall w e = ap (roomBy (bytesOf (c .mapper) ram wall) room) e
-
-pub refused-load-changes-nothing : (c : Cartridge) (ram save : List ℕ) (wall : ℕ) (w : SaveRefusal)
-    → loadOf c (length ram) save wall ≡ Refuse w → areaAfter c ram save wall ≡ ram
-unfolding areaAfter
-refused-load-changes-nothing c ram save wall w e = ap (areaBy ram save) e
-
--- A save that was made stands at the start of the room, and the room beyond it stays.
+-- 1. A save that was made stands at the start of the room, and the room beyond it stays.
 pub saved-stands-first : (c : Cartridge) (ram room : List ℕ) (wall n : ℕ) → saveOf c ram (length room) wall ≡ saved.Wrote n
     → roomAfter c ram room wall ≡ bytesOf (c .mapper) ram wall ++ drop n room
 unfolding roomAfter
@@ -86,7 +41,7 @@ saved-stands-first c ram room wall n e = ap (roomBy (bytesOf (c .mapper) ram wal
 
 -- 2. "The way back gives the same second, minute, hour and day if the saved time was not behind the wall time on saving and the
 -- wall time is the same on reading." From any fit cartridge with a clock k to any with one, and whatever bytes follow;
-pub way-back : (c d : Cartridge) (k j : Clock) (ram rest : List ℕ) (wall : ℕ) → Timed c k (length ram) → Timed d j (length ram)
+pub way-back : (c d : Cartridge) (k j : Clock) (ram rest : List ℕ) (wall : ℕ) → Kept c k (length ram) → Kept d j (length ram)
     → wall ≤ k .time → k .time < 2 ^ 64 → Back k (loadOf d (length ram) (bytesOf (c .mapper) ram wall ++ rest) wall)
 way-back = laws.way-back
 
@@ -124,33 +79,7 @@ pub again-without-timer : (c : Cartridge) (ram save : List ℕ) (wall later : �
     → bytesOf (c .mapper) (areaAfter c ram save wall) later ≡ take (length ram) save
 again-without-timer = laws.again-ram
 
--- 4. A save read into a cartridge leaves it fit, with the same area to lend,
-pub loaded-is-fit : (c d : Cartridge) (area : ℕ) (save : List ℕ) (wall : ℕ) → loadOf c area save wall ≡ Whole d → fitCart d ≡ true
-loaded-is-fit = laws.load-fit
-
+-- 4. A save read into a cartridge leaves it the same area to lend; that it leaves it fit stands in Demand1.
 pub loaded-area-stays : (c d : Cartridge) (area : ℕ) (save : List ℕ) (wall : ℕ) → loadOf c area save wall ≡ Whole d
     → areaOf d ≡ areaOf c
 loaded-area-stays = laws.load-area-stays
-
--- so the bus goes on from there, and never gives 13 or 14.
-pub loaded-is-ready : (rom : List ℕ) (m : Machine) (d : Cartridge) (save : List ℕ) (wall : ℕ) → Ready rom m
-    → loadOf (m .cart) (length (m .area)) save wall ≡ Whole d
-    → Ready rom (record { cart = d; area = areaAfter (m .cart) (m .area) save wall })
-loaded-is-ready = laws.load-ready
-
--- 5. Any two answers that a contract allows coincide.
-pub save-coincides : (c : Cartridge) (ram : List ℕ) (room wall : ℕ) (x y : Saved) → x ≡ saveOf c ram room wall
-    → y ≡ saveOf c ram room wall → x ≡ y
-save-coincides c ram room wall x y = coincide
-
-pub room-coincides : (c : Cartridge) (ram room : List ℕ) (wall : ℕ) (x y : List ℕ) → x ≡ roomAfter c ram room wall
-    → y ≡ roomAfter c ram room wall → x ≡ y
-room-coincides c ram room wall x y = coincide
-
-pub load-coincides : (c : Cartridge) (area : ℕ) (save : List ℕ) (wall : ℕ) (x y : Loaded) → x ≡ loadOf c area save wall
-    → y ≡ loadOf c area save wall → x ≡ y
-load-coincides c area save wall x y = coincide
-
-pub loaded-area-coincides : (c : Cartridge) (ram save : List ℕ) (wall : ℕ) (x y : List ℕ) → x ≡ areaAfter c ram save wall
-    → y ≡ areaAfter c ram save wall → x ≡ y
-loaded-area-coincides c ram save wall x y = coincide

@@ -1,5 +1,3 @@
-pub mod Time
-pub mod Padded
-pub mod Limits
-pub mod Calls
-pub mod Saves
+pub mod Refusing
+pub mod Tests
+pub mod Agrees

@@ -6,7 +6,6 @@ use Prim.Native.Nat.{ℕ, _<_, _≤_}
 use native.Mathlib.Omega.{arith}
 use lib.ListN.{length, set, take, length-set, length-take}
 use borrow.Author.Tests.{lt-ltb, le-ltb}
-use Rattle.facts.proofs.ChoiceLaws.{coincide}
 use Rattle.trace.specs.Trace.{recordsOf}
 use Rattle.lines.specs.Lines.{endLine}
 use Rattle.cartridge.specs.declared.Cartridge.{Cartridge}
@@ -20,10 +19,7 @@ use Rattle.replay_text.specs.Replay.{
   roomFor,
   doneOf,
   replayOf,
-  areaAfter,
-  roomAfter,
 }
-use Rattle.replay_text.specs.declared.Replayed.{Replayed}
 use Rattle.replay_text.specs.declared.Replayed.the-variants.{NoRoom}
 use Rattle.replay_text.proofs.Laws.{by-room}
 use Rattle.replay_text.proofs.Bounds.{room-16384}
@@ -61,10 +57,3 @@ module _ (c : Cartridge) (rom ram : List ℕ) (room : ℕ) (h : 41008 ≤ room) 
   pub replayed-changed : (s : List ℕ) (i b : ℕ) → length s ≤ 16384
       → replayOf c rom ram (set s i b) room ≡ doneOf c rom ram (set s i b)
   replayed-changed s i b l = replayed (set s i b) (omega (arith, length-set s i b))
-
--- Any two answers that the contract allows coincide, and so do the areas and the rooms they leave.
-pub coincides : (c : Cartridge) (rom ram s room : List ℕ) {x y : Replayed} {a b t u : List ℕ}
-    → x ≡ replayOf c rom ram s (length room) → a ≡ areaAfter c rom ram s (length room) → t ≡ roomAfter c rom ram s room
-    → y ≡ replayOf c rom ram s (length room) → b ≡ areaAfter c rom ram s (length room) → u ≡ roomAfter c rom ram s room
-    → (x ≡ y) × (a ≡ b) × (t ≡ u)
-coincides c rom ram s room p q r p′ q′ r′ = (coincide p p′, coincide q q′, coincide r r′)

@@ -4,10 +4,11 @@ use mathlib.Core.List.{[], _∷_}
 use mathlib.Core.Path.{_≡_, refl, sym, ap, _∙_}
 use Prim.Native.Nat.{ℕ, zero, suc, _+_}
 use native.Mathlib.Numerals.{add-one}
+use native.Mathlib.Omega.{arith}
 use Rattle.facts.specs.Choice.{pick}
 use Rattle.facts.specs.Refusals.{no, firstNo}
 use Rattle.clock.specs.Fit.{fitClock}
-use Rattle.clock.specs.Ticking as clock
+use Rattle.clock.specs.Ticking as ticking
 use Rattle.clock.specs.declared.Clock.{Clock}
 use Rattle.clock.specs.declared.AdvanceRefusal.the-variants.{Unfit, Late}
 use Rattle.clock.specs.declared.Advanced as declared
@@ -43,19 +44,19 @@ fit-answer c n f =
     ap (λ (t : Bool). firstNo Refuse (no (not t) Unfit ∷ no (mapper.late (c .mapper) n) Late ∷ []) (To (withMapper c (mapper.clocksOn (c .mapper) n)))) f
 
 -- with a timer it is the clock's, and all else stays
-pub clock-advance : (c : Cartridge) (k : Clock) (n : ℕ) → Timed c k → advanceOf c n ≡ fromClock c (clock.advanceOf k n)
-unfolding clock.advanceOf
+pub clock-advance : (c : Cartridge) (k : Clock) (n : ℕ) → Timed c k → advanceOf c n ≡ fromClock c (ticking.advanceOf k n)
+unfolding ticking.advanceOf
 clock-advance c k n t =
     let m = kept.clock-moves (c .mapper) k n (t .clock) in
     let f = kept.clock-fits (c .mapper) k (t .clock) (fit-registers c (t .fit)) in
     fit-answer c n (t .fit)
     ∙ ap (λ (b : Bool). pick b (Refuse Late) (To (withMapper c (mapper.clocksOn (c .mapper) n)))) (m .0)
-    ∙ ap (λ (x : Mapper). pick (clock.late k n) (Refuse Late) (To (withMapper c x))) (m .1)
-    ∙ same (clock.late k n)
-    ∙ ap (λ (b : Bool). fromClock c (firstNo clocks.Refuse (no (not b) Unfit ∷ no (clock.late k n) Late ∷ []) (clocks.To (clock.ticks n k)))) (sym f)
+    ∙ ap (λ (x : Mapper). pick (ticking.late k n) (Refuse Late) (To (withMapper c x))) (m .1)
+    ∙ same (ticking.late k n)
+    ∙ ap (λ (b : Bool). fromClock c (firstNo clocks.Refuse (no (not b) Unfit ∷ no (ticking.late k n) Late ∷ []) (clocks.To (ticking.ticks n k)))) (sym f)
   where
-    same : (b : Bool) → pick b (Refuse Late) (To (withClockOf c (clock.ticks n k)))
-        ≡ fromClock c (pick b (clocks.Refuse Late) (clocks.To (clock.ticks n k)))
+    same : (b : Bool) → pick b (Refuse Late) (To (withClockOf c (ticking.ticks n k)))
+        ≡ fromClock c (pick b (clocks.Refuse Late) (clocks.To (ticking.ticks n k)))
     same true = refl
     same false = refl
 
@@ -75,14 +76,42 @@ timed-on c k j n t e =
       clock = kept.clock-with (c .mapper) j (ap hasClock (t .clock));
     }
 
+-- an answer to a cartridge with a timer, taken apart
+pub record TakenTimed (c d : Cartridge) (k : Clock) (n : ℕ) : Type 0 where
+  pub clock : Clock
+  pub taken : ticking.advanceOf k n ≡ clocks.To clock
+  pub is : d ≡ withClockOf c clock
+
+module _ (c : Cartridge) (k : Clock) (n : ℕ) (t : Timed c k) where
+  pub timed-taken : (d : Cartridge) → advanceOf c n ≡ To d → TakenTimed c d k n
+  timed-taken d e = go (ticking.advanceOf k n) refl (sym (clock-advance c k n t) ∙ e)
+    where
+      go : (x : declared.Advanced) → ticking.advanceOf k n ≡ x → fromClock c x ≡ To d → TakenTimed c d k n
+      go (clocks.To j) p q = record { clock = j; taken = p; is = cc }
+      go (clocks.Refuse w) p q = let z : _≡_ {A = ℕ} 0 1 = cc in absurd (omega arith)
+
+  pub timed-late : advanceOf c n ≡ Refuse Late → ticking.advanceOf k n ≡ clocks.Refuse Late
+  timed-late e = go (ticking.advanceOf k n) refl (sym (clock-advance c k n t) ∙ e)
+    where
+      go : (x : declared.Advanced) → ticking.advanceOf k n ≡ x → fromClock c x ≡ Refuse Late → x ≡ clocks.Refuse Late
+      go (clocks.To j) p q = let z : _≡_ {A = ℕ} 0 1 = cc in absurd (omega arith)
+      go (clocks.Refuse w) p q = cc
+
+  -- the clock that is then in it
+  pub timed-clock : (j : Clock) (d : Cartridge) (x : TakenTimed c d k n) → clockIn (d .mapper) ≡ timer.Clock j → x .clock ≡ j
+  timed-clock j d x e =
+      let p : timer.Clock (x .clock) ≡ timer.Clock j =
+      sym (kept.clock-with (c .mapper) (x .clock) (ap hasClock (t .clock))) ∙ ap (λ (y : Cartridge). clockIn (y .mapper)) (sym (x .is)) ∙ e in cc
+
+-- one advance after the other
 pub advances-joined : (c : Cartridge) (a b : ℕ) → advanceOf c (a + b) ≡ thenAdvance (advanceOf c a) b
 advances-joined c a b = go (fitCart c) (clockIn (c .mapper)) refl refl
   where
-    from : (k : Clock) → Timed c k → (x : declared.Advanced) → clock.advanceOf k a ≡ x
+    from : (k : Clock) → Timed c k → (x : declared.Advanced) → ticking.advanceOf k a ≡ x
         → fromClock c (time.thenAdvance x b) ≡ thenAdvance (fromClock c x) b
     from k t (clocks.To j) e =
         let d = clock-advance c k a t ∙ ap (fromClock c) e in
-        sym (clock-advance (withClockOf c j) j b (timed-on c k j a t d) ∙ again j (clock.advanceOf j b))
+        sym (clock-advance (withClockOf c j) j b (timed-on c k j a t d) ∙ again j (ticking.advanceOf j b))
       where
         again : (j : Clock) (x : declared.Advanced) → fromClock (withClockOf c j) x ≡ fromClock c x
         again j (clocks.To i) = ap (λ (m : Mapper). To (withMapper c m)) (kept.with-clock-twice (c .mapper) j i)
@@ -96,7 +125,7 @@ advances-joined c a b = go (fitCart c) (clockIn (c .mapper)) refl refl
         ∙ ap (λ (x : Advanced). thenAdvance x b) (sym (no-clock-advance c a p q))
     go true (timer.Clock k) p q =
         let t : Timed c k = record { fit = p; clock = q } in
-        clock-advance c k (a + b) t ∙ ap (fromClock c) (joined k a b) ∙ from k t (clock.advanceOf k a) refl
+        clock-advance c k (a + b) t ∙ ap (fromClock c) (joined k a b) ∙ from k t (ticking.advanceOf k a) refl
         ∙ ap (λ (x : Advanced). thenAdvance x b) (sym (clock-advance c k a t))
 
 pub by-single-advances : (n : ℕ) (c : Cartridge) → advanceOf c n ≡ singleAdvances n c

@@ -37,7 +37,7 @@ use Rattle.access.proofs.Laws.{by-tests}
 use Rattle.runs.specs.Calls.{Called, Calls, Octet, Octets, Ready, Neither, AllNeither}
 use Rattle.runs.specs.Calls as calls
 use Rattle.runs.proofs.MapperLaws as kept
-use Rattle.runs.proofs.BusLaws.{write-taken, write-fit, write-area-stays, write-one, one-length, advance-taken, advance-fit, mount-taken, mount-fit}
+use Rattle.runs.proofs.BusLaws.{write-taken, write-fit, write-area-stays, write-one, refused-area, one-length, advance-taken, advance-fit, mount-taken, mount-fit}
 
 -- ---- the calls made one after the other are the run
 
@@ -83,6 +83,26 @@ read-left rom m addr = go (readOf (m .cart) rom (m .area) addr)
     go : (r : ReadAnswer) → afterRead m r .left ≡ m
     go (read.Byte b) = refl
     go (read.Refuse w) = refl
+
+-- a refused access leaves the machine as it was
+pub refused-left : (rom : List ℕ) (m : Machine) (a : Access) (k : ℕ) → stepOf rom m a .answer ≡ run.refused k
+    → stepOf rom m a .left ≡ m
+refused-left rom m (run.reads addr) k e = read-left rom m addr
+refused-left rom m (run.writes addr byte) k e = go (writeOf (m .cart) (m .area) addr byte) refl e
+  where
+    after : List ℕ
+    after = areaAfter (m .cart) (m .area) addr byte
+
+    go : (r : WriteAnswer) → writeOf (m .cart) (m .area) addr byte ≡ r → afterWrite m r after .answer ≡ run.refused k
+        → afterWrite m r after .left ≡ m
+    go (write.Done d) p q = let z : _≡_ {A = ℕ} 0 1 = cc in absurd (omega arith)
+    go (write.Refuse w) p q =
+        ap (λ (x : List ℕ). record { cart = m .cart; area = x }) (refused-area (m .cart) (m .area) addr byte w p)
+refused-left rom m (run.clocks n) k e = go (advanceOf (m .cart) n) e
+  where
+    go : (r : Advanced) → afterClocks m r .answer ≡ run.refused k → afterClocks m r .left ≡ m
+    go (advanced.To d) q = let z : _≡_ {A = ℕ} 0 1 = cc in absurd (omega arith)
+    go (advanced.Refuse w) q = refl
 
 module _ (rom : List ℕ) (m : Machine) (ready : Ready rom m) where
   step-neither : (a : Access) → Neither (stepOf rom m a .answer)

@@ -1,6 +1,6 @@
 -- Accepted loads, taken apart; what they leave fit; and what comes back. Assumes nothing.
 use mathlib.Core.Bool.{Bool, true, false, not}
-use mathlib.Core.List.{List, [], _∷_, _++_, append-assoc, append-nil}
+use mathlib.Core.List.{List, [], _∷_, _++_, map, append-assoc, append-nil}
 use mathlib.Core.Path.{_≡_, refl, sym, ap, _∙_}
 use Prim.Native.Nat.{ℕ, _+_, _-_, _^_, _<_, _≤_}
 use native.Mathlib.Omega.{arith}
@@ -14,7 +14,7 @@ use Rattle.facts.proofs.ChoiceLaws.{false≢true, both-true, both-left, both-ri
 use Rattle.facts.proofs.RefusalLaws.{none-if, none-at, none-accepts}
 use Rattle.banking.specs.Banks.{fromOne}
 use Rattle.bytes_le.specs.Little.{Octets}
-use Rattle.bytes_le.proofs.FieldLaws.{octets-drop}
+use Rattle.bytes_le.proofs.OctetLaws.{octets-drop}
 use Rattle.clock_registers.specs.Fit.{fitRegisters}
 use Rattle.clock_registers.specs.declared.Registers.{Registers}
 use Rattle.clock_registers.proofs.FitLaws.{fit-bounds}
@@ -38,11 +38,12 @@ use Rattle.cartridge.specs.Fit.{fitCart, areaOf}
 use Rattle.cartridge.specs.With.{withMapper}
 use Rattle.cartridge.specs.declared.Cartridge.{Cartridge}
 use Rattle.cartridge.proofs.Laws.{fit-registers}
-use Rattle.save_file.specs.Admit.{admitNoes}
-use Rattle.save_file.specs.Save.{bytesOf}
+use Rattle.save_file.specs.Admit.{numberOf, admitNoes}
+use Rattle.save_file.specs.Save.{bytesOf, saveNoes, saveOf}
 use Rattle.save_file.specs.Load.{behindNoes, bytesNoes, acceptedOf, loadNoes, loadOf, areaAfter, areaBy}
 use Rattle.save_file.specs.declared.SaveRefusal.{SaveRefusal}
 use Rattle.save_file.specs.declared.SaveRefusal.the-variants.{Unfit, WrongLength, NoBattery, ShortSave, Block as InBlock}
+use Rattle.save_file.specs.declared.Saved.the-variants as saved
 use Rattle.save_file.specs.declared.Loaded.{Loaded}
 use Rattle.save_file.specs.declared.Loaded.the-variants.{Whole, RamOnly, Refuse}
 use Rattle.bus.specs.Run.{Machine}
@@ -85,9 +86,19 @@ module _ (c : Cartridge) (area : ℕ) (save : List ℕ) (wall : ℕ) where
       ∷ no (ltb (length save) area) ShortSave
       ∷ pick t (no (beyond read) (InBlock block.Beyond) ∷ no (late read wall) (InBlock block.Late) ∷ []) []
 
-  pub noes-by : {t : Bool} → hasBlock (c .mapper) (drop area save) ≡ t → loadNoes c area save wall ≡ noesBy t
+  noes-by : {t : Bool} → hasBlock (c .mapper) (drop area save) ≡ t → loadNoes c area save wall ≡ noesBy t
   unfolding loadNoes admitNoes blockNoes
   noes-by e = ap noesBy e
+
+  -- the numbers, the last two where there is a block
+  pub noes-numbers : map (λ (t : No SaveRefusal). numberOf (t .why)) (loadNoes c area save wall)
+      ≡ pick (hasBlock (c .mapper) (drop area save)) (13 ∷ 14 ∷ 18 ∷ 19 ∷ 20 ∷ 17 ∷ []) (13 ∷ 14 ∷ 18 ∷ 19 ∷ [])
+  noes-numbers = ap (map (λ (t : No SaveRefusal). numberOf (t .why))) (noes-by refl) ∙ go (hasBlock (c .mapper) (drop area save))
+    where
+      go : (t : Bool) → map (λ (x : No SaveRefusal). numberOf (x .why)) (noesBy t)
+          ≡ pick t (13 ∷ 14 ∷ 18 ∷ 19 ∷ 20 ∷ 17 ∷ []) (13 ∷ 14 ∷ 18 ∷ 19 ∷ [])
+      go true = refl
+      go false = refl
 
   answer-by : {t : Bool} → hasBlock (c .mapper) (drop area save) ≡ t → acceptedOf c (drop area save) wall ≡ answerBy t
   unfolding acceptedOf
@@ -316,3 +327,16 @@ load-ready rom m d save wall ready e =
           ∙ length-take-le (length (m .area)) save (ltb-false (length save) (length (m .area)) (t .long))
           ∙ ready .area ∙ sym (load-area-stays (m .cart) d (length (m .area)) save wall e);
     }
+
+-- ---- a fit cartridge lent its own area is not refused with 13 or 14
+
+pub fit-saves : (c : Cartridge) (ram : List ℕ) (room wall : ℕ) → fitCart c ≡ true → length ram ≡ areaOf c
+    → saveOf c ram room wall
+    ≡ firstNo saved.Refuse (drop 2 (saveNoes c ram room wall)) (saved.Wrote (length (bytesOf (c .mapper) ram wall)))
+unfolding saveOf saveNoes admitNoes
+fit-saves c ram room wall f l = let e = eq-eqb _ _ l in rw (f, e) refl
+
+pub fit-loads : (c : Cartridge) (area : ℕ) (save : List ℕ) (wall : ℕ) → fitCart c ≡ true → area ≡ areaOf c
+    → loadOf c area save wall ≡ firstNo Refuse (drop 2 (loadNoes c area save wall)) (acceptedOf c (drop area save) wall)
+unfolding loadOf loadNoes admitNoes
+fit-loads c area save wall f l = let e = eq-eqb _ _ l in rw (f, e) refl

@@ -1,9 +1,10 @@
 -- What demand 3 speaks of: advances one after the other, single ticks, the period, and what a register keeps.
-use mathlib.Core.Bool.{Bool}
+use mathlib.Core.Bool.{true, false}
 use mathlib.Core.List.{List, [], _∷_}
 use mathlib.Core.Path.{_≡_}
 use Prim.Native.Nat.{ℕ, zero, suc, _+_, _*_, _/_, _%_, _<_}
 use Rattle.clock.specs.Ticking.{advanceOf}
+use Rattle.clock_registers.specs.Access.{registers}
 use Rattle.clock_registers.specs.declared.Registers.{Registers}
 use Rattle.clock.specs.declared.Clock.{Clock}
 use Rattle.clock.specs.declared.Advanced.{Advanced}
@@ -39,6 +40,17 @@ secondsOf k = k * 2097152
 -- "44,236,800 seconds is the period": 512 days
 abbrev pub period : ℕ
 period = 44236800
+
+-- the clock a period on: the same second, minute, hour and day, with the carry set and the time that much later
+abbrev pub periodOn : Clock → Clock
+periodOn c =
+    record {
+      running = registers (c .running .second) (c .running .minute) (c .running .hour) (c .running .day) false true;
+      sub = c .sub;
+      time = c .time + period;
+      latched = c .latched;
+      frozen = c .frozen;
+    }
 
 -- what each of the five registers keeps of a byte
 abbrev pub keeps : ℕ → List ℕ
