@@ -6,7 +6,7 @@ use mathlib.Core.Path.{_≡_, refl, sym, ap, _∙_, subst}
 use Prim.Native.Nat.{ℕ, zero, suc, _+_, _<_, _≤_}
 use native.Mathlib.Omega.{arith}
 use lib.ListN.{length, set, take, drop, length-set, length-drop}
-use lib.Seq.{take-all, length-take-le, take-at, drop-at, getD-drop}
+use lib.Seq.{take-all, length-take-le, take-at, drop-at}
 use Rattle.facts.specs.Choice.{pick, both}
 use Rattle.facts.proofs.ChoiceLaws.{both-left, not-true}
 use Rattle.facts.proofs.ListLaws.{one-of-le}

@@ -4,10 +4,10 @@
 -- contract. The rest is one statement, `Refusing`, and an instance of it for each call that refuses. The instances speak of
 -- definitions (`checkOf`, `mountOf`, ..): the contracts say that the code's answers, and every lent byte, equal these on all inputs.
 -- Assumes nothing.
-use mathlib.Core.Bool.{Bool, true, false, not}
-use mathlib.Core.List.{List, [], _∷_, map}
+use mathlib.Core.Bool.{true, false, not}
+use mathlib.Core.List.{List, [], _∷_}
 use mathlib.Core.Logic.{_⊎_, inl, inr}
-use mathlib.Core.Path.{_≡_, refl, sym, ap, _∙_}
+use mathlib.Core.Path.{_≡_, refl, sym, ap}
 use Prim.Native.Nat.{ℕ, _*_, _<_}
 use native.Mathlib.Omega.{arith}
 use lib.ListN.{length, drop}
@@ -48,7 +48,6 @@ use Rattle.mount.specs.declared.Mounted.{Mounted}
 use Rattle.mount.specs.declared.Mounted.the-variants as mounted
 use Rattle.access.specs.Verdict as access
 use Rattle.access.specs.Verdict.{inRom, noes, verdictOf}
-use Rattle.access.specs.declared.Verdict.{Verdict}
 use Rattle.access.specs.declared.Verdict.the-variants.{Rom, Ram, Refuse}
 use Rattle.bus.specs.Bus.{lentBoth, lentArea, readVerdict, writeVerdict, readBy, readOf, writeBy, writeOf, areaAfter}
 use Rattle.bus.specs.Advance.{advanceOf, advanceNoes}
@@ -62,9 +61,7 @@ use Rattle.save_file.specs.Admit.{admitNoes}
 use Rattle.save_file.specs.Save.{bytesOf, saveNoes, saveOf, roomBy, roomAfter}
 use Rattle.save_file.specs.Load as load
 use Rattle.save_file.specs.Load.{loadNoes, acceptedOf, loadOf}
-use Rattle.save_file.specs.declared.Saved.{Saved}
 use Rattle.save_file.specs.declared.Saved.the-variants as saved
-use Rattle.save_file.specs.declared.Loaded.{Loaded}
 use Rattle.save_file.specs.declared.Loaded.the-variants as loaded
 use Rattle.runs.specs.Calls.{Octets, Ready, AllNeither}
 use Rattle.runs.proofs.BusLaws as laws

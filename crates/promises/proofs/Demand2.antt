@@ -6,7 +6,7 @@ use mathlib.Core.Bool.{Bool, true, false}
 use mathlib.Core.List.{List}
 use mathlib.Core.Logic.{_↔_}
 use mathlib.Core.Path.{_≡_, refl, sym, ap, _∙_, subst}
-use Prim.Native.Nat.{ℕ, _+_, _*_, _%_, _^_, _<_, _≤_}
+use Prim.Native.Nat.{ℕ, _+_, _%_, _^_, _<_, _≤_}
 use lib.Count.{ones, trailingZeros}
 use lib.ListN.{getD, length, replicate}
 use Rattle.bytes_le.specs.Little as bytes
@@ -40,12 +40,11 @@ use Rattle.runs.specs.Calls as calls
 use Rattle.runs.proofs.ImageLaws as image
 use Rattle.runs.proofs.BusLaws as laws
 use Rattle.runs.proofs.RunLaws as sequence
-use Rattle.original.specs.Machine.{Outcome, ok, panic}
+use Rattle.original.specs.Machine.{ok, panic}
 use Rattle.original.specs.Cartridge as rust
 use Rattle.original.specs.Cartridge.{CartridgeError, taken, error, fromFile}
 use Rattle.original.specs.Same.{Same}
 use Rattle.original.specs.Domain.{Since, since, InDomain}
-use Rattle.original.specs.Step as steps
 use Rattle.original.specs.Verdict.{numberOf, cartridgeOf, ImageInDomain}
 use Rattle.original.proofs.StepLaws.{RanSame}
 use Rattle.original.proofs.Original as original

@@ -19,9 +19,7 @@ use Rattle.header.specs.declared.Checked.the-variants as checked
 use Rattle.cartridge.specs.Fit.{areaOf}
 use Rattle.cartridge.specs.declared.Cartridge.{Cartridge}
 use Rattle.mount.specs.Mount.{cartOf, mountBy, mountOf}
-use Rattle.mount.specs.declared.MountRefusal.{MountRefusal}
 use Rattle.mount.specs.declared.MountRefusal.the-variants.{Header, WrongArea}
-use Rattle.mount.specs.declared.Mounted.{Mounted}
 use Rattle.mount.specs.declared.Mounted.the-variants as mounted
 use Rattle.access.specs.Verdict.{inRom}
 use Rattle.access.specs.declared.BusRefusal.{BusRefusal}
@@ -42,14 +40,19 @@ pub by-first : {R A : Type 0} {numberOf : R → ℕ} {refuse : R → A} {tests :
     {numbers before after : List ℕ} → answer ≡ firstNo refuse tests accepted → ((v w : R) → refuse v ≡ refuse w → v ≡ w)
     → ((w : R) → accepted ≡ refuse w → ⊥) → map (λ (t : No R). numberOf (t .why)) tests ≡ numbers
     → ((w : R) → answer ≡ refuse w → after ≡ before) → Refusing numberOf refuse tests accepted answer numbers before after
-by-first {refuse = refuse} {tests = tests} {accepted = accepted} is one apart order stays =
+by-first {refuse = refuse} {tests = tests} {accepted = accepted} {answer = answer} is one apart order stays =
     record {
       order = order;
       first = λ f. is ∙ first-answers refuse accepted tests f;
       given = λ w e. given-first refuse tests accepted one apart w (sym is ∙ e);
       none = λ n. is ∙ none-accepts refuse accepted tests n;
+      only = λ e. go e (none-or-first tests);
       stays = stays;
     }
+  where
+    go : answer ≡ accepted → (anyNo tests ≡ false) ⊎ First tests → anyNo tests ≡ false
+    go e (inl n) = n
+    go e (inr f) = absurd (apart (f .test .why) (sym e ∙ is ∙ first-answers refuse accepted tests f))
 
 -- ---- mounting: the header's tests, and one more
 

@@ -1,35 +1,26 @@
 -- The save file: "Nothing may be lost by a bad file, a short buffer or a long sleep." The theorems speak of `saveOf`, `roomAfter`,
 -- `loadOf` and `areaAfter`: the contracts of `save_file::save` and `save_file::load` say that the code's answers, every byte of the
 -- lent room and every byte of the lent RAM area equal these on all inputs. Which calls are refused stands in Demand1. Assumes nothing.
-use mathlib.Core.Bool.{Bool, true, false}
-use mathlib.Core.List.{List, [], _∷_, _++_, map}
+use mathlib.Core.Bool.{false}
+use mathlib.Core.List.{List, _++_}
 use mathlib.Core.Path.{_≡_, refl, ap}
 use Prim.Native.Nat.{ℕ, _+_, _^_, _<_, _≤_}
 use lib.ListN.{length, take, drop}
 use Rattle.facts.specs.Counter.{step, carries}
-use Rattle.facts.specs.Refusals.{No, anyNo}
-use Rattle.facts.proofs.ChoiceLaws.{coincide}
-use Rattle.facts.proofs.RefusalLaws.{First, first-answers, none-accepts}
 use Rattle.bytes_le.specs.Little.{Octets}
 use Rattle.clock_registers.specs.Seconds.{secondOn, secondsOn}
 use Rattle.clock.specs.Access.{startAt}
 use Rattle.clock.specs.declared.Clock.{Clock}
 use Rattle.clock_block.specs.Layout.{blockIn}
-use Rattle.clock_block.specs.Waking.{blockOf, takenOf, timeOf, wokenOf, blockNoes}
+use Rattle.clock_block.specs.Waking.{blockOf, takenOf, timeOf, wokenOf}
 use Rattle.mapper.specs.declared.Mapper.{Mapper}
-use Rattle.battery.specs.Battery.{clockIn, hasClock, hasBlock}
-use Rattle.cartridge.specs.Fit.{fitCart, areaOf}
+use Rattle.battery.specs.Battery.{clockIn, hasClock}
+use Rattle.cartridge.specs.Fit.{areaOf}
 use Rattle.cartridge.specs.declared.Cartridge.{Cartridge}
-use Rattle.save_file.specs.Admit.{numberOf, admitNoes}
-use Rattle.save_file.specs.Save.{bytesOf, saveNoes, saveOf, roomBy, roomAfter}
-use Rattle.save_file.specs.Load.{loadNoes, acceptedOf, loadOf, areaBy, areaAfter}
-use Rattle.save_file.specs.declared.SaveRefusal.{SaveRefusal}
-use Rattle.save_file.specs.declared.Saved.{Saved}
+use Rattle.save_file.specs.Save.{bytesOf, saveOf, roomBy, roomAfter}
+use Rattle.save_file.specs.Load.{loadOf, areaAfter}
 use Rattle.save_file.specs.declared.Saved.the-variants as saved
-use Rattle.save_file.specs.declared.Loaded.{Loaded}
-use Rattle.save_file.specs.declared.Loaded.the-variants.{Whole, Refuse}
-use Rattle.bus.specs.Run.{Machine}
-use Rattle.runs.specs.Calls.{Ready}
+use Rattle.save_file.specs.declared.Loaded.the-variants.{Whole}
 use Rattle.runs.specs.Saves.{Kept, Back}
 use Rattle.runs.proofs.SaveLaws as laws
 

@@ -17,7 +17,8 @@ pub record Refusing {R A : Type 0} (numberOf : R → ℕ) (refuse : R → A) (te
   pub first : (f : First tests) → answer ≡ refuse (f .test .why)
   -- none is given otherwise."
   pub given : (w : R) → answer ≡ refuse w → (f : First tests) × (f .test .why ≡ w)
-  -- where none holds, the call is accepted
+  -- the call is accepted where none holds, and only there
   pub none : anyNo tests ≡ false → answer ≡ accepted
+  pub only : answer ≡ accepted → anyNo tests ≡ false
   -- "all lent bytes stay"
   pub stays : (w : R) → answer ≡ refuse w → after ≡ before

@@ -7,7 +7,6 @@ use native.Mathlib.Numerals.{add-one}
 use native.Mathlib.Omega.{arith}
 use Rattle.facts.specs.Choice.{pick}
 use Rattle.facts.specs.Refusals.{no, firstNo}
-use Rattle.clock.specs.Fit.{fitClock}
 use Rattle.clock.specs.Ticking as ticking
 use Rattle.clock.specs.declared.Clock.{Clock}
 use Rattle.clock.specs.declared.AdvanceRefusal.the-variants.{Unfit, Late}
@@ -15,7 +14,7 @@ use Rattle.clock.specs.declared.Advanced as declared
 use Rattle.clock.specs.declared.Advanced.the-variants as clocks
 use Rattle.mapper.specs.Mappers as mapper
 use Rattle.mapper.specs.declared.Mapper.{Mapper}
-use Rattle.battery.specs.Battery.{clockIn, hasClock, withClock}
+use Rattle.battery.specs.Battery.{clockIn, hasClock}
 use Rattle.battery.specs.declared.Timer.{Timer}
 use Rattle.battery.specs.declared.Timer.the-variants as timer
 use Rattle.cartridge.specs.Fit.{fitCart}

@@ -2,17 +2,16 @@
 use mathlib.Core.Bool.{Bool, true, false, not}
 use mathlib.Core.List.{List, [], _∷_, _++_, map, append-assoc, append-nil}
 use mathlib.Core.Path.{_≡_, refl, sym, ap, _∙_}
-use Prim.Native.Nat.{ℕ, _+_, _-_, _^_, _<_, _≤_}
+use Prim.Native.Nat.{ℕ, _+_, _^_, _<_, _≤_}
 use native.Mathlib.Omega.{arith}
-use lib.Dec.{eqb, ltb, leb}
+use lib.Dec.{eqb, ltb}
 use lib.ListN.{length, getD, take, drop, length-append, length-drop, take-append-drop}
 use lib.Seq.{take-at, drop-at, take-add, length-take-le}
 use borrow.Author.Tests.{eq-eqb, le-ltb, le-leb, leb-true, ltb-false}
-use Rattle.facts.specs.Choice.{pick, both, either}
-use Rattle.facts.specs.Refusals.{No, no, firstNo, anyNo, inWords}
+use Rattle.facts.specs.Choice.{pick}
+use Rattle.facts.specs.Refusals.{No, no, firstNo, anyNo}
 use Rattle.facts.proofs.ChoiceLaws.{false≢true, both-true, both-left, both-right, not-false}
 use Rattle.facts.proofs.RefusalLaws.{none-if, none-at, none-accepts}
-use Rattle.banking.specs.Banks.{fromOne}
 use Rattle.bytes_le.specs.Little.{Octets}
 use Rattle.bytes_le.proofs.OctetLaws.{octets-drop}
 use Rattle.clock_registers.specs.Fit.{fitRegisters}
@@ -27,10 +26,8 @@ use Rattle.clock_block.specs.declared.Block.{Block}
 use Rattle.clock_block.specs.declared.BlockRefusal.the-variants as block
 use Rattle.clock_block.proofs.Laws.{length-block}
 use Rattle.clock_block.proofs.BackLaws.{Narrow, block-back, bytes-back, woken-fit, woken-same, kept-time, again-time, again-same}
-use Rattle.mbc3.specs.Registers as mbc3
 use Rattle.mapper.specs.Mappers as mapper
 use Rattle.mapper.specs.declared.Mapper.{Mapper}
-use Rattle.mapper.specs.declared.Mapper.the-variants.{NoMapper, Mbc1, Mbc2, Mbc3, Mbc5}
 use Rattle.battery.specs.Battery.{clockIn, hasClock, hasBlock, withClock, batteryBytes}
 use Rattle.battery.specs.declared.Timer.{Timer}
 use Rattle.battery.specs.declared.Timer.the-variants as timer
@@ -40,7 +37,7 @@ use Rattle.cartridge.specs.declared.Cartridge.{Cartridge}
 use Rattle.cartridge.proofs.Laws.{fit-registers}
 use Rattle.save_file.specs.Admit.{numberOf, admitNoes}
 use Rattle.save_file.specs.Save.{bytesOf, saveNoes, saveOf}
-use Rattle.save_file.specs.Load.{behindNoes, bytesNoes, acceptedOf, loadNoes, loadOf, areaAfter, areaBy}
+use Rattle.save_file.specs.Load.{acceptedOf, loadNoes, loadOf, areaAfter, areaBy}
 use Rattle.save_file.specs.declared.SaveRefusal.{SaveRefusal}
 use Rattle.save_file.specs.declared.SaveRefusal.the-variants.{Unfit, WrongLength, NoBattery, ShortSave, Block as InBlock}
 use Rattle.save_file.specs.declared.Saved.the-variants as saved

@@ -1,17 +1,15 @@
 -- The arguments behind demand 3. Assumes nothing.
 use mathlib.Core.Bool.{Bool, true, false}
-use mathlib.Core.List.{List, [], _∷_}
 use mathlib.Core.Logic.{_↔_}
 use mathlib.Core.Path.{_≡_, refl, sym, ap, _∙_, subst}
 use Prim.Native.Nat.{ℕ, zero, suc, _+_, _*_, _/_, _%_, _<_, _≤_}
-use native.Mathlib.Nat.{le-trans, add-zero}
 use native.Mathlib.Numerals.{add-one}
 use native.Mathlib.Omega.{arith}
 use lib.Dec.{eqb, ltb}
 use lib.ListN.{getD}
 use borrow.Author.Tests.{ltb-false, ltb-true, eq-eqb}
-use Rattle.facts.specs.Choice.{pick, either, bit}
-use Rattle.facts.specs.Counter.{steps, count}
+use Rattle.facts.specs.Choice.{pick, bit}
+use Rattle.facts.specs.Counter.{count}
 use Rattle.facts.proofs.ChoiceLaws.{either-true}
 use Rattle.facts.proofs.CounterLaws.{comes-back-whole, whole-comes-back, plain-grows, cyclic-grows}
 use Rattle.clock_registers.specs.Fit.{fitRegisters}
@@ -22,7 +20,7 @@ use Rattle.clock_registers.specs.Access.{readings, writings}
 use Rattle.clock.specs.Access.{visible, shownOf, writtenClock, writtenOf}
 use Rattle.clock_registers.specs.declared.Registers.{Registers}
 use Rattle.clock.specs.declared.Clock.{Clock}
-use Rattle.clock.specs.declared.AdvanceRefusal.the-variants.{Unfit, Late}
+use Rattle.clock.specs.declared.AdvanceRefusal.the-variants.{Late}
 use Rattle.clock.specs.declared.Advanced.{Advanced}
 use Rattle.clock.specs.declared.Advanced.the-variants.{To, Refuse}
 use Rattle.clock.specs.declared.Shown.the-variants as shown
