@@ -49,7 +49,7 @@ use Rattle.original.specs.Verdict.{numberOf, cartridgeOf, ImageInDomain}
 use Rattle.original.proofs.StepLaws.{RanSame}
 use Rattle.original.proofs.Original as original
 use Rattle.original.proofs.Original.{mountedMachine}
-use Rattle.promises.specs.Tests.{factsIn}
+use Rattle.promises.specs.PublicCalls.{factsIn}
 use Rattle.promises.specs.Agrees.{Agrees}
 
 -- ---- Against the definitions

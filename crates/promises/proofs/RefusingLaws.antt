@@ -33,26 +33,26 @@ use Rattle.save_file.specs.Load.{acceptedOf}
 use Rattle.save_file.specs.declared.SaveRefusal.{SaveRefusal}
 use Rattle.save_file.specs.declared.Loaded.{Loaded}
 use Rattle.save_file.specs.declared.Loaded.the-variants as loaded
-use Rattle.promises.specs.Refusing.{Refusing}
-use Rattle.promises.specs.Tests.{factsIn, areaNoes, mountNoes}
+use Rattle.promises.specs.Refusing.{Call, Refusing}
+use Rattle.promises.specs.PublicCalls.{factsIn, areaNoes, mountNoes}
 
-pub by-first : {R A : Type 0} {numberOf : R → ℕ} {refuse : R → A} {tests : List (No R)} {accepted answer : A}
-    {numbers before after : List ℕ} → answer ≡ firstNo refuse tests accepted → ((v w : R) → refuse v ≡ refuse w → v ≡ w)
-    → ((w : R) → accepted ≡ refuse w → ⊥) → map (λ (t : No R). numberOf (t .why)) tests ≡ numbers
-    → ((w : R) → answer ≡ refuse w → after ≡ before) → Refusing numberOf refuse tests accepted answer numbers before after
-by-first {refuse = refuse} {tests = tests} {accepted = accepted} {answer = answer} is one apart order stays =
+pub by-first : {R A : Type 0} {numbers : List ℕ} (c : Call R A) → c .answer ≡ firstNo (c .refuse) (c .tests) (c .accepted)
+    → ((v w : R) → c .refuse v ≡ c .refuse w → v ≡ w) → ((w : R) → c .accepted ≡ c .refuse w → ⊥)
+    → map (λ (t : No R). c .numberOf (t .why)) (c .tests) ≡ numbers
+    → ((w : R) → c .answer ≡ c .refuse w → c .after ≡ c .before) → Refusing numbers c
+by-first c is one apart order stays =
     record {
       order = order;
-      first = λ f. is ∙ first-answers refuse accepted tests f;
-      given = λ w e. given-first refuse tests accepted one apart w (sym is ∙ e);
-      none = λ n. is ∙ none-accepts refuse accepted tests n;
-      only = λ e. go e (none-or-first tests);
+      first = λ f. is ∙ first-answers (c .refuse) (c .accepted) (c .tests) f;
+      given = λ w e. given-first (c .refuse) (c .tests) (c .accepted) one apart w (sym is ∙ e);
+      none = λ n. is ∙ none-accepts (c .refuse) (c .accepted) (c .tests) n;
+      only = λ e. go e (none-or-first (c .tests));
       stays = stays;
     }
   where
-    go : answer ≡ accepted → (anyNo tests ≡ false) ⊎ First tests → anyNo tests ≡ false
+    go : c .answer ≡ c .accepted → (anyNo (c .tests) ≡ false) ⊎ First (c .tests) → anyNo (c .tests) ≡ false
     go e (inl n) = n
-    go e (inr f) = absurd (apart (f .test .why) (sym e ∙ is ∙ first-answers refuse accepted tests f))
+    go e (inr f) = absurd (apart (f .test .why) (sym e ∙ is ∙ first-answers (c .refuse) (c .accepted) (c .tests) f))
 
 -- ---- mounting: the header's tests, and one more
 

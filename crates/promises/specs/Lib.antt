@@ -1,3 +1,3 @@
 pub mod Refusing
-pub mod Tests
+pub mod PublicCalls
 pub mod Agrees

@@ -7,18 +7,28 @@ use Prim.Native.Nat.{ℕ}
 use Rattle.facts.specs.Refusals.{No, anyNo}
 use Rattle.facts.proofs.RefusalLaws.{First}
 
--- of a call's tests in their order, its accepted answer, its answer, the numbers, and the bytes that it was lent to write, as they
--- were before and are after
-pub record Refusing {R A : Type 0} (numberOf : R → ℕ) (refuse : R → A) (tests : List (No R)) (accepted answer : A)
-    (numbers before after : List ℕ) : Type 0 where
+-- a call on some input, with refusals R and answers A
+pub record Call (R A : Type 0) : Type 0 where
+  -- its tests in their order
+  pub tests : List (No R)
+  pub numberOf : R → ℕ
+  pub refuse : R → A
+  -- what it answers where it is accepted, and what it answers
+  pub accepted : A
+  pub answer : A
+  -- the bytes that it is lent to write, before and after
+  pub before : List ℕ
+  pub after : List ℕ
+
+pub record Refusing {R A : Type 0} (numbers : List ℕ) (c : Call R A) : Type 0 where
   -- the tests have these numbers, in this order
-  pub order : map (λ (t : No R). numberOf (t .why)) tests ≡ numbers
+  pub order : map (λ (t : No R). c .numberOf (t .why)) (c .tests) ≡ numbers
   -- "If several hold, the first in the stated order is given;
-  pub first : (f : First tests) → answer ≡ refuse (f .test .why)
+  pub first : (f : First (c .tests)) → c .answer ≡ c .refuse (f .test .why)
   -- none is given otherwise."
-  pub given : (w : R) → answer ≡ refuse w → (f : First tests) × (f .test .why ≡ w)
+  pub given : (w : R) → c .answer ≡ c .refuse w → (f : First (c .tests)) × (f .test .why ≡ w)
   -- the call is accepted where none holds, and only there
-  pub none : anyNo tests ≡ false → answer ≡ accepted
-  pub only : answer ≡ accepted → anyNo tests ≡ false
+  pub none : anyNo (c .tests) ≡ false → c .answer ≡ c .accepted
+  pub only : c .answer ≡ c .accepted → anyNo (c .tests) ≡ false
   -- "all lent bytes stay"
-  pub stays : (w : R) → answer ≡ refuse w → after ≡ before
+  pub stays : (w : R) → c .answer ≡ c .refuse w → c .after ≡ c .before
