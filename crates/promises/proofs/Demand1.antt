@@ -1,9 +1,9 @@
 -- Demand 1: "No image, state, address, byte, clock count or save file makes a call trap or touch memory it wasn't lent. Each bad
 -- input gets its number from document 01, and a refused call changes neither the cartridge nor any lent byte."
 -- That no call traps and none touches what it was not lent is what the prover shows of every function before it shows its
--- contract. The rest is one statement, `Refusing`, and an instance of it for each call that refuses. The calls of `PublicCalls` speak
--- of definitions (`checkOf`, `mountOf`, ..): the contracts say that the code's answers, and every lent byte, equal these on all
--- inputs. Assumes nothing.
+-- contract. The rest is one statement, `Refusing`, and an instance of it for each call that refuses. The calls of `PublicCalls`
+-- speak of definitions (`checkOf`, `mountOf`, ..): the contracts say that the code's answers, and every lent byte, equal these on
+-- all inputs. Assumes nothing.
 use mathlib.Core.Bool.{true, false}
 use mathlib.Core.List.{List, [], _∷_}
 use mathlib.Core.Logic.{_⊎_, inl, inr}
@@ -60,7 +60,20 @@ use Rattle.runs.proofs.BusLaws as laws
 use Rattle.runs.proofs.RunLaws as sequence
 use Rattle.runs.proofs.SaveLaws as saves
 use Rattle.promises.specs.Refusing.{Call, Refusing}
-use Rattle.promises.specs.PublicCalls.{factsIn, checking, asking, mountNoes, mounting, reading, writing, advancing, ticking, saving, loading, waking}
+use Rattle.promises.specs.PublicCalls.{
+  factsIn,
+  checking,
+  asking,
+  mountNoes,
+  mounting,
+  reading,
+  writing,
+  advancing,
+  ticking,
+  saving,
+  loading,
+  waking,
+}
 use Rattle.promises.proofs.RefusingLaws.{by-first, mount-is-first, read-taken, write-taken, load-taken}
 
 -- 1. "Each bad input gets its number". Every input of a call of which the statement holds gets the answer, or the number of the
@@ -74,24 +87,24 @@ answer-or-number c r = go (none-or-first (c .tests))
     go (inl n) = inl (r .none n)
     go (inr f) = inr (f, r .first f)
 
--- `header::check` and `mount::ask_area`, on every list of bytes,
+-- `header::check` and `mount::ask_area`, of any image.
 pub check-refuses : (image : List ℕ) → Refusing (1 ∷ 2 ∷ 3 ∷ 4 ∷ 5 ∷ 6 ∷ 7 ∷ 8 ∷ 9 ∷ 10 ∷ 11 ∷ []) (checking image)
 unfolding checkOf header.noes
 check-refuses image =
-    by-first (checking image) refl (λ v w e. cc) (λ w e. let z : _≡_ {A = ℕ} 0 1 = cc in absurd (omega arith)) refl (λ w e. refl)
+    by-first (checking image) refl (λ v w e. cc) (λ w e. cc) refl (λ w e. refl)
 
 pub ask-area-refuses : (image : List ℕ) → Refusing (1 ∷ 2 ∷ 3 ∷ 4 ∷ 5 ∷ 6 ∷ 7 ∷ 8 ∷ 9 ∷ 10 ∷ 11 ∷ []) (asking image)
 unfolding mount.areaFor checkOf header.noes
 ask-area-refuses image =
     by-first (asking image) (first-map mount.askedBy checked.Refuse (testsOf image) (checked.Accept (factsIn image)))
-    (λ v w e. cc) (λ w e. let z : _≡_ {A = ℕ} 0 1 = cc in absurd (omega arith)) refl (λ w e. refl)
+    (λ v w e. cc) (λ w e. cc) refl (λ w e. refl)
 
 -- `mount::mount`, of any image, any lent RAM area and any wall time: "Mounting checks 1 to 12 in order."
 pub mount-refuses : (image ram : List ℕ) (wall : ℕ)
     → Refusing (1 ∷ 2 ∷ 3 ∷ 4 ∷ 5 ∷ 6 ∷ 7 ∷ 8 ∷ 9 ∷ 10 ∷ 11 ∷ 12 ∷ []) (mounting image ram wall)
 unfolding mountNoes header.noes mount.areaAfter
 mount-refuses image ram wall =
-    by-first (mounting image ram wall) (mount-is-first image ram wall) (λ v w e. cc) (λ w e. let z : _≡_ {A = ℕ} 0 1 = cc in absurd (omega arith)) refl
+    by-first (mounting image ram wall) (mount-is-first image ram wall) (λ v w e. cc) (λ w e. cc) refl
     (λ w e. ap (λ (x : Mounted). mount.areaBy x ram) e)
 
 -- `bus::read` and `bus::write`, of any cartridge, any lent image and area, any address and any byte: "Bus: 13, 14, 15, 16."
@@ -112,21 +125,21 @@ write-refuses c ram addr byte =
 -- `bus::advance`, of any cartridge and any count, and `Clock::advance`, of any clock: "Advancing: 13, 17."
 pub advance-refuses : (c : Cartridge) (n : ℕ) → Refusing (13 ∷ 17 ∷ []) (advancing c n)
 unfolding advanceOf
-advance-refuses c n = by-first (advancing c n) refl (λ v w e. cc) (λ w e. let z : _≡_ {A = ℕ} 0 1 = cc in absurd (omega arith)) refl (λ w e. refl)
+advance-refuses c n = by-first (advancing c n) refl (λ v w e. cc) (λ w e. cc) refl (λ w e. refl)
 
 pub clock-advance-refuses : (c : Clock) (n : ℕ) → Refusing (13 ∷ 17 ∷ []) (ticking c n)
 unfolding clock.advanceOf
-clock-advance-refuses c n = by-first (ticking c n) refl (λ v w e. cc) (λ w e. let z : _≡_ {A = ℕ} 0 1 = cc in absurd (omega arith)) refl (λ w e. refl)
+clock-advance-refuses c n = by-first (ticking c n) refl (λ v w e. cc) (λ w e. cc) refl (λ w e. refl)
 
 -- `save_file::save`, of any lent area, any room and any wall time: "Out: 13, 14 (RAM), 18, 21."
 pub save-refuses : (c : Cartridge) (ram room : List ℕ) (wall : ℕ) → Refusing (13 ∷ 14 ∷ 18 ∷ 21 ∷ []) (saving c ram room wall)
 unfolding saveOf saveNoes admitNoes roomAfter
 save-refuses c ram room wall =
-    by-first (saving c ram room wall) refl (λ v w e. cc) (λ w e. let z : _≡_ {A = ℕ} 0 1 = cc in absurd (omega arith)) refl
+    by-first (saving c ram room wall) refl (λ v w e. cc) (λ w e. cc) refl
     (λ w e. ap (roomBy (bytesOf (c .mapper) ram wall) room) e)
 
 -- `save_file::load`, of any lent area, any save bytes and any wall time: "Save file in: 13, 14 (RAM), 18, 19, 20, 17", the last two
--- where there is a block to read;
+-- where there is a block to read.
 pub load-refuses : (c : Cartridge) (ram bytes : List ℕ) (wall : ℕ)
     → Refusing (pick (hasBlock (c .mapper) (drop (length ram) bytes)) (13 ∷ 14 ∷ 18 ∷ 19 ∷ 20 ∷ 17 ∷ []) (13 ∷ 14 ∷ 18 ∷ 19 ∷ []))
     (loading c ram bytes wall)
@@ -138,7 +151,7 @@ load-refuses c ram bytes wall =
 -- `Block::wake`, of a block alone.
 pub wake-refuses : (b : Block) (wall : ℕ) → Refusing (20 ∷ 17 ∷ []) (waking b wall)
 unfolding block.wakeOf block.blockNoes
-wake-refuses b wall = by-first (waking b wall) refl (λ v w e. cc) (λ w e. let z : _≡_ {A = ℕ} 0 1 = cc in absurd (omega arith)) refl (λ w e. refl)
+wake-refuses b wall = by-first (waking b wall) refl (λ v w e. cc) (λ w e. cc) refl (λ w e. refl)
 
 -- Above 8 MiB it is number 1, whatever stands in the image.
 pub too-long-is-1 : (image : List ℕ) → 8388608 < length image → checkOf image ≡ checked.Refuse TooLong
@@ -191,12 +204,14 @@ never-13-nor-14 = sequence.run-neither
 
 pub ready-saves : (rom : List ℕ) (m : Machine) (room wall : ℕ) → Ready rom m
     → saveOf (m .cart) (m .area) room wall
-    ≡ firstNo saved.Refuse (drop 2 (saveNoes (m .cart) (m .area) room wall)) (saved.Wrote (length (bytesOf (m .cart .mapper) (m .area) wall)))
+    ≡ firstNo saved.Refuse (drop 2 (saveNoes (m .cart) (m .area) room wall))
+    (saved.Wrote (length (bytesOf (m .cart .mapper) (m .area) wall)))
 ready-saves rom m room wall r = saves.fit-saves (m .cart) (m .area) room wall (r .fit) (r .area)
 
 pub ready-loads : (rom : List ℕ) (m : Machine) (bytes : List ℕ) (wall : ℕ) → Ready rom m
     → loadOf (m .cart) (length (m .area)) bytes wall
-    ≡ firstNo loaded.Refuse (drop 2 (loadNoes (m .cart) (length (m .area)) bytes wall)) (acceptedOf (m .cart) (drop (length (m .area)) bytes) wall)
+    ≡ firstNo loaded.Refuse (drop 2 (loadNoes (m .cart) (length (m .area)) bytes wall))
+    (acceptedOf (m .cart) (drop (length (m .area)) bytes) wall)
 ready-loads rom m bytes wall r = saves.fit-loads (m .cart) (length (m .area)) bytes wall (r .fit) (r .area)
 
 -- 4. No call touches "memory it wasn't lent": every mapped place is inside the padded image

@@ -40,7 +40,8 @@ fit-answer : (c : Cartridge) (n : ℕ) → fitCart c ≡ true
     → advanceOf c n ≡ pick (mapper.late (c .mapper) n) (Refuse Late) (To (withMapper c (mapper.clocksOn (c .mapper) n)))
 unfolding advanceOf
 fit-answer c n f =
-    ap (λ (t : Bool). firstNo Refuse (no (not t) Unfit ∷ no (mapper.late (c .mapper) n) Late ∷ []) (To (withMapper c (mapper.clocksOn (c .mapper) n)))) f
+    let next = To (withMapper c (mapper.clocksOn (c .mapper) n)) in
+    ap (λ (t : Bool). firstNo Refuse (no (not t) Unfit ∷ no (mapper.late (c .mapper) n) Late ∷ []) next) f
 
 -- with a timer it is the clock's, and all else stays
 pub clock-advance : (c : Cartridge) (k : Clock) (n : ℕ) → Timed c k → advanceOf c n ≡ fromClock c (ticking.advanceOf k n)
@@ -52,7 +53,8 @@ clock-advance c k n t =
     ∙ ap (λ (b : Bool). pick b (Refuse Late) (To (withMapper c (mapper.clocksOn (c .mapper) n)))) (m .0)
     ∙ ap (λ (x : Mapper). pick (ticking.late k n) (Refuse Late) (To (withMapper c x))) (m .1)
     ∙ same (ticking.late k n)
-    ∙ ap (λ (b : Bool). fromClock c (firstNo clocks.Refuse (no (not b) Unfit ∷ no (ticking.late k n) Late ∷ []) (clocks.To (ticking.ticks n k)))) (sym f)
+    ∙ ap (λ (b : Bool). fromClock c (firstNo clocks.Refuse (no (not b) Unfit ∷ no (ticking.late k n) Late ∷ []) (clocks.To (ticking.ticks n k))))
+    (sym f)
   where
     same : (b : Bool) → pick b (Refuse Late) (To (withClockOf c (ticking.ticks n k)))
         ≡ fromClock c (pick b (clocks.Refuse Late) (clocks.To (ticking.ticks n k)))
@@ -100,7 +102,8 @@ module _ (c : Cartridge) (k : Clock) (n : ℕ) (t : Timed c k) where
   pub timed-clock : (j : Clock) (d : Cartridge) (x : TakenTimed c d k n) → clockIn (d .mapper) ≡ timer.Clock j → x .clock ≡ j
   timed-clock j d x e =
       let p : timer.Clock (x .clock) ≡ timer.Clock j =
-      sym (kept.clock-with (c .mapper) (x .clock) (ap hasClock (t .clock))) ∙ ap (λ (y : Cartridge). clockIn (y .mapper)) (sym (x .is)) ∙ e in cc
+      sym (kept.clock-with (c .mapper) (x .clock) (ap hasClock (t .clock)))
+      ∙ ap (λ (y : Cartridge). clockIn (y .mapper)) (sym (x .is)) ∙ e in cc
 
 -- one advance after the other
 pub advances-joined : (c : Cartridge) (a b : ℕ) → advanceOf c (a + b) ≡ thenAdvance (advanceOf c a) b

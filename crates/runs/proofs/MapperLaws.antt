@@ -185,7 +185,11 @@ clock-moves (Mbc3 m) k n e = go (m .timer) e
     go : (t : Bool) → pick t (timer.Clock (m .clock)) timer.Nothing ≡ timer.Clock k
         → (both t (ticking.late (m .clock) n) ≡ ticking.late k n)
         × (Mbc3 (pick t (mbc3.withClock m (ticking.ticks n (m .clock))) m) ≡ Mbc3 (mbc3.withClock m (ticking.ticks n k)))
-    go true p = let same : m .clock ≡ k = cc in (ap (λ (x : Clock). ticking.late x n) same, ap (λ (x : Clock). Mbc3 (mbc3.withClock m (ticking.ticks n x))) same)
+    go true p =
+        let same : m .clock ≡ k = cc in (
+          ap (λ (x : Clock). ticking.late x n) same,
+          ap (λ (x : Clock). Mbc3 (mbc3.withClock m (ticking.ticks n x))) same,
+        )
     go false p = let z : _≡_ {A = ℕ} 0 1 = cc in absurd (omega arith)
 clock-moves (Mbc5 m) k n e = let z : _≡_ {A = ℕ} 0 1 = cc in absurd (omega arith)
 
