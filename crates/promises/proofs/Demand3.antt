@@ -43,6 +43,7 @@ use Rattle.runs.proofs.TimeLaws.{
   taken-exactly,
   no-sooner,
   comes-back,
+  seconds-proper,
   whole-seconds,
   taken-seconds,
   ticks-carry,
@@ -85,6 +86,14 @@ pub period-is-least : (c d : Clock) (k : ℕ) → fitClock c ≡ true → Proper
 period-is-least c d k f p h pos less e same =
     let q = advance-taken c d (secondsOf k) e .is ∙ whole-seconds c k f h in
     no-sooner (c .running) (fit-parts c f .running) p k pos less (subst (λ (x : Clock). SameTime (x .running) (c .running)) q same)
+
+-- A game may write second 61 or hour 30, which no period brings back: within 122,764 seconds every fit clock that runs is below 60,
+-- 60 and 24, and the two above hold from then on.
+pub soon-proper : (c d : Clock) (k : ℕ) → fitClock c ≡ true → c .running .halt ≡ false → 122764 ≤ k
+    → advanceOf c (secondsOf k) ≡ To d → Proper (d .running)
+soon-proper c d k f h long e =
+    let q = advance-taken c d (secondsOf k) e .is ∙ whole-seconds c k f h in
+    subst (λ (x : Clock). Proper (x .running)) (sym q) (seconds-proper k (c .running) (fit-parts c f .running) long)
 
 -- 4. A fit clock stays fit under every operation,
 pub advance-stays-fit : (c d : Clock) (n : ℕ) → advanceOf c n ≡ To d → fitClock d ≡ true
@@ -183,3 +192,11 @@ cartridge-period-is-least c d k j s t p h pos less e i same =
     let x = laws.timed-taken c k (secondsOf s) t d e in
     let q = laws.timed-clock c k (secondsOf s) t j d x i in
     period-is-least k j s (timed-fit c k t) p h pos less (x .taken ∙ ap To q) same
+
+-- And within 122,764 seconds every such cartridge's clock is one that the period brings back.
+pub cartridge-soon-proper : (c d : Cartridge) (k j : Clock) (s : ℕ) → Timed c k → k .running .halt ≡ false → 122764 ≤ s
+    → advances.advanceOf c (secondsOf s) ≡ advanced.To d → clockIn (d .mapper) ≡ timer.Clock j → Proper (j .running)
+cartridge-soon-proper c d k j s t h long e i =
+    let x = laws.timed-taken c k (secondsOf s) t d e in
+    let q = laws.timed-clock c k (secondsOf s) t j d x i in
+    soon-proper k j s (timed-fit c k t) h long (x .taken ∙ ap To q)

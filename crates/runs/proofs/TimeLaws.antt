@@ -2,16 +2,16 @@
 use mathlib.Core.Bool.{Bool, true, false}
 use mathlib.Core.Logic.{_↔_}
 use mathlib.Core.Path.{_≡_, refl, sym, ap, _∙_, subst}
-use Prim.Native.Nat.{ℕ, zero, suc, _+_, _*_, _/_, _%_, _<_, _≤_}
+use Prim.Native.Nat.{ℕ, zero, suc, _+_, _-_, _*_, _/_, _%_, _<_, _≤_}
 use native.Mathlib.Numerals.{add-one}
 use native.Mathlib.Omega.{arith}
 use lib.Dec.{eqb, ltb}
 use lib.ListN.{getD}
 use borrow.Author.Tests.{ltb-false, ltb-true, eq-eqb}
 use Rattle.facts.specs.Choice.{pick, bit}
-use Rattle.facts.specs.Counter.{count}
+use Rattle.facts.specs.Counter.{Counter, cyclic, steps, count, Ran}
 use Rattle.facts.proofs.ChoiceLaws.{either-true}
-use Rattle.facts.proofs.CounterLaws.{comes-back-whole, whole-comes-back, plain-grows, cyclic-grows}
+use Rattle.facts.proofs.CounterLaws.{low-digits, comes-back-whole, whole-comes-back, plain-grows, cyclic-grows, over-ran}
 use Rattle.clock_registers.specs.Fit.{fitRegisters}
 use Rattle.clock.specs.Fit.{fitClock}
 use Rattle.clock_registers.specs.Seconds.{sixty, hours, days, secondsOn}
@@ -85,6 +85,36 @@ module _ (r : Registers) (f : fitRegisters r ≡ true) (p : Proper r) where
       let h = whole-comes-back hours (omega arith) (cyclic-grows 32 24 (omega arith)) 512 (r .hour) (p .hour) in
       let d = whole-comes-back days (omega arith) (plain-grows 512) 1 (r .day) (fit-bounds r f .day) in
       by-places period r ∙ rw (s .0, s .1, m .0, m .1, h .0, h .1, d .0, d .1, either-true) refl
+
+-- from any of its w values a counter gets below its stop s within w steps, and from then on every s-th step carries
+lowered : (w s : ℕ) → 0 < s → s < w → (n v : ℕ) → v < w → w ≤ n
+    → (steps (cyclic w s) n v < s) × (n ≤ count (cyclic w s) n v * s + s + w)
+lowered w s pos low n v h m = go (ltb v s) refl
+  where
+    c : Counter
+    c = cyclic w s
+
+    from : (v k : ℕ) → v < s → (steps c k v < s) × (k ≤ count c k v * s + s)
+    from v k l = let d = low-digits c pos (cyclic-grows w s low) k v l in (d .0, omega (arith, d .0, d .1))
+
+    go : (t : Bool) → ltb v s ≡ t → (steps c n v < s) × (n ≤ count c n v * s + s + w)
+    go true e = let d = from v n (ltb-true v s e) in (d .0, omega (arith, d .1))
+    go false e =
+        let k = n - (w - v) in
+        let r : Ran c n v (steps c k 0) (count c k 0) =
+        over-ran w s pos low (ltb-false v s e) h (omega arith) (record { value = refl; carried = refl }) in
+        let d = from 0 k pos in
+        (rw (← r .value) (d .0), rw (← r .carried) (omega (arith, d .1)))
+
+-- 122,764 seconds bring every second, minute and hour below their stops
+pub seconds-proper : (k : ℕ) (r : Registers) → fitRegisters r ≡ true → 122764 ≤ k → Proper (secondsOn k r)
+unfolding placed
+seconds-proper k r f h =
+    let b = fit-bounds r f in
+    let s = lowered 64 60 (omega arith) (omega arith) k (r .second) (b .second) (omega arith) in
+    let m = lowered 64 60 (omega arith) (omega arith) (minuteSteps k r) (r .minute) (b .minute) (omega (arith, s .1)) in
+    let o = lowered 32 24 (omega arith) (omega arith) (hourSteps k r) (r .hour) (b .hour) (omega (arith, s .1, m .1)) in
+    subst Proper (sym (by-places k r)) (record { second = s .0; minute = m .0; hour = o .0 })
 
 -- whole seconds of a clock that is not halted
 pub whole-seconds : (c : Clock) (k : ℕ) → fitClock c ≡ true → c .running .halt ≡ false
