@@ -8,6 +8,7 @@ use lib.Dec.{eqb}
 use Rattle.facts.specs.Choice.{both, either}
 use Rattle.facts.specs.Listed.{oneOf}
 use Rattle.facts.proofs.ChoiceLaws.{false≢true, both-left, both-right, eqb-iff}
+use Rattle.facts.proofs.ListLaws.{one-of-le}
 use Rattle.image.specs.Image.{paddedLength}
 use Rattle.header.specs.Size.{ramSizes}
 use Rattle.mapper.specs.Mappers as mapper
@@ -72,3 +73,14 @@ fit-banks c e = counts-pos (c .banks) (both-left (oneOf (c .banks) bankCounts) _
 pub fit-padded : (c : Cartridge) → fitCart c ≡ true → eqb (paddedLength (c .length)) (c .banks * 0x4000) ≡ true
 unfolding fitBoard
 fit-padded c e = both-right (oneOf (c .banks) bankCounts) _ (both-left _ _ (fit-board c e))
+
+pub fit-size : (c : Cartridge) → fitCart c ≡ true → c .size ≤ 0x20000
+unfolding fitBoard
+fit-size c e =
+    one-of-le 0x20000 (c .size) ramSizes refl
+    (both-left (oneOf (c .size) ramSizes) (mapper.holds (c .mapper) (c .banks) (c .size))
+    (both-right (both (oneOf (c .banks) bankCounts) (eqb (paddedLength (c .length)) (c .banks * 0x4000))) _ (fit-board c e)))
+
+pub fit-count : (c : Cartridge) → fitCart c ≡ true → c .banks ≤ 512
+unfolding fitBoard
+fit-count c e = one-of-le 512 (c .banks) bankCounts refl (both-left (oneOf (c .banks) bankCounts) _ (both-left _ _ (fit-board c e)))

@@ -17,9 +17,9 @@ use Rattle.mbc3.specs.Registers as mbc3
 use Rattle.timer.specs.Advance as timer
 use Rattle.mbc3.specs.declared.Mbc3 as declared
 use Rattle.timer.specs.declared.Advanced.the-variants as timer-answer
-use Rattle.mapper.specs.Mappers.{kindOf, multicartBanks, holds, fitRegisters, bank0, bankX, bankAt, late, clocksOn, advanceOf, fromTimer}
+use Rattle.mapper.specs.Mappers.{kindOf, multicartBanks, holds, fitRegisters, areaOf, bank0, bankX, bankAt, late, clocksOn, advanceOf, fromTimer}
 use Rattle.mapper.specs.declared.Mapper.{Mapper}
-use Rattle.mapper.specs.declared.Mapper.the-variants.{Mbc3}
+use Rattle.mapper.specs.declared.Mapper.the-variants.{NoMapper, Mbc1, Mbc2, Mbc3, Mbc5}
 use Rattle.mapper.specs.declared.Advanced.{Advanced}
 use Rattle.mapper.specs.declared.Advanced.the-variants.{To, Refuse}
 
@@ -67,3 +67,12 @@ no-half-bytes len size h = sym (ne-eqb len (size + 512) (λ e. omega arith))
 
 pub half-bytes-more : (len size : ℕ) → 512 ≤ len → eqb (len - 512) size ≡ eqb len (size + 512)
 half-bytes-more len size h = eqb-iff (len - 512) size len (size + 512) (λ e. omega arith) (λ e. omega arith)
+
+-- ---- the area is at most the half-bytes longer than the header's RAM
+
+pub area-le : (m : Mapper) (size : ℕ) → areaOf m size ≤ size + 512
+area-le (NoMapper m) size = omega arith
+area-le (Mbc1 m) size = omega arith
+area-le (Mbc2 m) size = omega arith
+area-le (Mbc3 m) size = omega arith
+area-le (Mbc5 m) size = omega arith

@@ -1,6 +1,7 @@
 // The mappers as one: an enum over their registers, and each question passed on to the mapper that is in it.
 ghost use mathlib.Core.Bool.{true};
 ghost use mathlib.Core.Path.{_≡_};
+ghost use Prim.Native.Nat.{_≤_};
 ghost use lib.Dec.{eqb};
 ghost use Rattle.mapper.specs.Mappers.{holds, fitRegisters, areaOf, bank0, bankX, bankAt, written, badSelection, advanceOf, fromTimer, kindOf, multicartBanks};
 ghost use Rattle.facts.specs.Choice.{pick};
@@ -94,6 +95,20 @@ impl Mapper {
             Mapper::Mbc2(m) => m.fit(),
             Mapper::Mbc3(m) => m.fit(),
             Mapper::Mbc5(m) => m.fit(),
+        }
+    }
+
+    // The length of the RAM area that goes with a RAM size of the header.
+    pub fn area(self, size: usize) -> usize
+        requires { ⌜ size ≤ 0x20000 ⌝ }
+        ensures { λ r. ⌜ r ≡ areaOf self size ⌝ }
+    {
+        match self {
+            Mapper::NoMapper(_) => size,
+            Mapper::Mbc1(_) => size,
+            Mapper::Mbc2(_) => size + 512,
+            Mapper::Mbc3(_) => size,
+            Mapper::Mbc5(_) => size,
         }
     }
 

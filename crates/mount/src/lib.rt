@@ -43,36 +43,6 @@ impl MountRefusal {
     }
 }
 
-// MBC2's half-bytes stand behind the header's RAM.
-fn area_of(kind: Kind, size: usize) -> usize
-    requires { ⌜ size ≤ 0x20000 ⌝ }
-    ensures { λ r. ⌜ r ≡ areaIn kind size ⌝ }
-{
-    match kind {
-        Kind::NoMapper => size,
-        Kind::Mbc1 => size,
-        Kind::Mbc2 => size + 512,
-        Kind::Mbc3 { timer: _ } => size,
-        Kind::Mbc5 { rumble: _ } => size,
-        Kind::Mmm01 => size,
-        Kind::Mbc6 => size,
-        Kind::Mbc7 => size,
-    }
-}
-
-// The length of the RAM area that mounting this image asks for.
-pub fn ask_area(image: &[u8]) -> Area
-    ensures { λ r. ⌜ r ≡ areaFor (now (image .entry)) ⌝ }
-{
-    match header::check(image) {
-        Checked::Accept(facts) => {
-            let kind = facts.kind;
-            Area::Bytes(area_of(kind, facts.size))
-        }
-        Checked::Refuse(why) => Area::Refuse(why),
-    }
-}
-
 // The mapper at its start. The last three kinds were refused before.
 fn start(kind: Kind, multicart: bool, wall: u64) -> Mapper
     ensures { λ r. ⌜ r ≡ startOf kind multicart wall ⌝ }
@@ -86,6 +56,28 @@ fn start(kind: Kind, multicart: bool, wall: u64) -> Mapper
         Kind::Mmm01 => Mapper::NoMapper(NoMapper::new()),
         Kind::Mbc6 => Mapper::NoMapper(NoMapper::new()),
         Kind::Mbc7 => Mapper::NoMapper(NoMapper::new()),
+    }
+}
+
+// The length of the RAM area that goes with a kind and a RAM size of the header.
+pub fn area_of(kind: Kind, size: usize) -> usize
+    requires { ⌜ size ≤ 0x20000 ⌝ }
+    ensures { λ r. ⌜ r ≡ areaIn kind size ⌝ }
+{
+    let mapper = start(kind, false, 0);
+    mapper.area(size)
+}
+
+// The length of the RAM area that mounting this image asks for.
+pub fn ask_area(image: &[u8]) -> Area
+    ensures { λ r. ⌜ r ≡ areaFor (now (image .entry)) ⌝ }
+{
+    match header::check(image) {
+        Checked::Accept(facts) => {
+            let kind = facts.kind;
+            Area::Bytes(area_of(kind, facts.size))
+        }
+        Checked::Refuse(why) => Area::Refuse(why),
     }
 }
 

@@ -26,12 +26,13 @@ use Rattle.cartridge.specs.Fit.{fitCart, areaOf}
 use Rattle.cartridge.specs.With.{withMapper}
 use Rattle.cartridge.specs.declared.Cartridge.{Cartridge}
 use Rattle.save_file.specs.Admit.{admitNoes, admitOf}
-use Rattle.save_file.specs.Save.{bytesOf, roomNoes, savedOf, roomBy, saveNoes, saveOf, roomAfter}
+use Rattle.save_file.specs.Save.{bytesOf, roomNoes, savedOf, roomBy, saveNoes, saveOf, roomAfter, roomFor}
 use Rattle.save_file.specs.Load.{behindNoes, bytesNoes, acceptedOf, loadedOf, areaBy, loadNoes, loadOf, areaAfter}
 use Rattle.save_file.specs.declared.SaveRefusal.{SaveRefusal}
 use Rattle.save_file.specs.declared.SaveRefusal.the-variants.{Unfit, WrongLength, NoBattery, ShortSave, Block, ShortRoom}
 use Rattle.save_file.specs.declared.Admitted.{Admitted}
 use Rattle.save_file.specs.declared.Admitted.the-variants as admitted
+use Rattle.save_file.specs.declared.Room.the-variants as room
 use Rattle.save_file.specs.declared.Saved.{Saved}
 use Rattle.save_file.specs.declared.Saved.the-variants as saved
 use Rattle.save_file.specs.declared.Loaded.{Loaded}
@@ -201,3 +202,23 @@ module _ (c : Cartridge) (area : ℕ) (save : List ℕ) (wall : ℕ) where
   loaded-long h e g =
       ap (fromBattery c) (sym g ∙ e ∙ ap (λ (s : List ℕ). battery.loadOf (c .mapper) s wall) (part-from area save))
       ∙ from-battery c (drop area save) wall ∙ by-short (le-ltb (length save) area h)
+
+-- ---- the room that is asked for, by the two tests
+
+pub room-tested : (c : Cartridge) {f b : Bool} → f ≡ fitCart c → b ≡ c .battery
+    → firstNo room.Refuse (no (not f) Unfit ∷ no (not b) NoBattery ∷ []) (room.Bytes (areaOf c + batterySize (clockIn (c .mapper))))
+    ≡ roomFor c
+unfolding roomFor
+room-tested c {f} p q =
+    let asked = room.Bytes (areaOf c + batterySize (clockIn (c .mapper))) in
+    ap (λ (t : Bool). firstNo room.Refuse (no (not f) Unfit ∷ no (not t) NoBattery ∷ []) asked) q
+    ∙ ap (λ (t : Bool). firstNo room.Refuse (no (not t) Unfit ∷ no (not (c .battery)) NoBattery ∷ []) asked) p
+
+-- and it is as long as the save will be
+pub room-length : (c : Cartridge) (ram : List ℕ) (wall : ℕ) → length ram ≡ areaOf c
+    → areaOf c + batterySize (clockIn (c .mapper)) ≡ length (bytesOf (c .mapper) ram wall)
+unfolding bytesOf
+room-length c ram wall e =
+    ap (λ (n : ℕ). n + batterySize (clockIn (c .mapper))) (sym e)
+    ∙ ap (λ (n : ℕ). length ram + n) (sym (battery-length (clockIn (c .mapper)) wall))
+    ∙ sym (length-append ram (batteryBytes (clockIn (c .mapper)) wall))

@@ -1,15 +1,19 @@
 -- The save file written (document 01, "The save file").
 use mathlib.Core.List.{List, [], _∷_, _++_}
-use Prim.Native.Nat.{ℕ}
+use mathlib.Core.Bool.{not}
+use Prim.Native.Nat.{ℕ, _+_}
 use lib.Dec.{ltb}
 use lib.ListN.{length, drop}
 use Rattle.facts.specs.Refusals.{No, no, firstNo}
 use Rattle.mapper.specs.declared.Mapper.{Mapper}
-use Rattle.battery.specs.Battery.{clockIn, batteryBytes}
+use Rattle.battery.specs.Battery.{clockIn, batterySize, batteryBytes}
+use Rattle.cartridge.specs.Fit.{fitCart, areaOf}
 use Rattle.cartridge.specs.declared.Cartridge.{Cartridge}
 use Rattle.save_file.specs.Admit.{admitNoes}
 use Rattle.save_file.specs.declared.SaveRefusal.{SaveRefusal}
-use Rattle.save_file.specs.declared.SaveRefusal.the-variants.{ShortRoom}
+use Rattle.save_file.specs.declared.SaveRefusal.the-variants.{Unfit, NoBattery, ShortRoom}
+use Rattle.save_file.specs.declared.Room.{Room}
+use Rattle.save_file.specs.declared.Room.the-variants as room
 use Rattle.save_file.specs.declared.Saved.{Saved}
 use Rattle.save_file.specs.declared.Saved.the-variants.{Wrote, Refuse}
 
@@ -38,3 +42,9 @@ saveOf c ram room wall = firstNo Refuse (saveNoes c ram room wall) (Wrote (lengt
 
 unfoldable pub roomAfter : Cartridge → List ℕ → List ℕ → ℕ → List ℕ
 roomAfter c ram room wall = roomBy (bytesOf (c .mapper) ram wall) room (saveOf c ram (length room) wall)
+
+-- the room that a save asks for: "Out: 13, .. 18", and then the RAM area and what the battery keeps
+unfoldable pub roomFor : Cartridge → Room
+roomFor c =
+    firstNo room.Refuse (no (not (fitCart c)) Unfit ∷ no (not (c .battery)) NoBattery ∷ [])
+    (room.Bytes (areaOf c + batterySize (clockIn (c .mapper))))

@@ -5,7 +5,7 @@ ghost use Prim.Native.Nat.{_≤_};
 ghost use lib.ListN.{length, take, drop};
 ghost use Rattle.battery.specs.Battery.{clockIn};
 ghost use Rattle.save_file.specs.Admit.{numberOf, admitOf};
-ghost use Rattle.save_file.specs.Save.{bytesOf, savedOf, roomBy, saveOf, roomAfter};
+ghost use Rattle.save_file.specs.Save.{bytesOf, savedOf, roomBy, saveOf, roomAfter, roomFor};
 ghost use Rattle.save_file.specs.Load.{loadedOf, areaBy, loadOf, areaAfter};
 use cartridge::Cartridge;
 use clock_block::BlockRefusal;
@@ -31,6 +31,12 @@ pub enum Loaded {
     Whole(Cartridge),
     // The RAM area was read and the cartridge is as it was.
     RamOnly,
+    Refuse(SaveRefusal),
+}
+
+// How many bytes a save takes.
+pub enum Room {
+    Bytes(usize),
     Refuse(SaveRefusal),
 }
 
@@ -69,6 +75,20 @@ fn admit(cart: Cartridge, area: usize) -> Admitted
         return Admitted::Yes;
     }
     Admitted::Refuse(SaveRefusal::NoBattery)
+}
+
+// The room that a save of this cartridge asks for.
+pub fn ask_room(cart: Cartridge) -> Room
+    ensures { λ r. ⌜ r ≡ roomFor cart ⌝ }
+{
+    if !cart.fit() {
+        return Room::Refuse(SaveRefusal::Unfit);
+    }
+    if cart.battery {
+        let mapper = cart.mapper;
+        return Room::Bytes(mapper.area(cart.size) + battery::save_battery_size(mapper));
+    }
+    Room::Refuse(SaveRefusal::NoBattery)
 }
 
 fn save_admitted(mapper: Mapper, ram: &[u8], room: &mut [u8], wall: u64) -> Saved

@@ -16,7 +16,7 @@ pub enum Advanced {
 }
 
 // Whether a clock register stands in the RAM window.
-fn on_clock(m: Mbc3) -> bool
+pub fn on_clock(m: Mbc3) -> bool
     ensures { λ r. ⌜ r ≡ onClock m ⌝ }
 {
     both(m.timer, both(m.enabled, !m.memory))

@@ -25,7 +25,8 @@ fn by_selection(m: Mbc3, size: usize, addr: u16) -> Way
     Way::Timer(m)
 }
 
-fn way_of(mapper: Mapper, size: usize, addr: u16) -> Way
+// What an address of the window leads to.
+pub fn way_of(mapper: Mapper, size: usize, addr: u16) -> Way
     ensures { λ r. ⌜ r ≡ wayOf mapper size addr ⌝ }
 {
     match mapper {

@@ -1,82 +1,19 @@
--- `mount::area_of` meets its contract: by the kind. Assumes nothing.
+-- `mount::area_of` meets its contract: of the mapper at its start. Assumes nothing.
 use borrow.Author.Needs.{needs}
 use Rattle.mount.proofs.area_of.Statement.{statement}
 use Rattle.mount.proofs.area_of.Tie as tie
-use Rattle.mount.proofs.area_of.Reads as reads
-use Rattle.mount.proofs.area_of.Lts as lts
-use mathlib.Core.Path.{sym, ap}
-use Rattle.types.specs.declared.Kind.{Kind}
-use Rattle.mount.specs.Mount.{areaIn}
+use mathlib.Core.Path.{_∙_, ap}
+use Rattle.mapper.specs.Mappers.{areaOf}
+use Rattle.mapper.specs.declared.Mapper.{Mapper}
 
-enum-told : tie.Need-enum-told
-enum-told c = search needs
+start-requires : tie.Need-start-requires
+start-requires c κs = search needs
 
-enum-told-2 : tie.Need-enum-told-2
-enum-told-2 c = search needs
-
-enum-told-3 : tie.Need-enum-told-3
-enum-told-3 c = search needs
-
-add-result : tie.Need-add-result
-add-result c = search needs
-
-enum-told-4 : tie.Need-enum-told-4
-enum-told-4 c = search needs
-
-enum-told-5 : tie.Need-enum-told-5
-enum-told-5 c = search needs
-
-enum-told-6 : tie.Need-enum-told-6
-enum-told-6 c = search needs
-
-enum-told-7 : tie.Need-enum-told-7
-enum-told-7 c = search needs
-
-enum-told-8 : tie.Need-enum-told-8
-enum-told-8 c = search needs
+area-requires : tie.Need-area-requires
+area-requires c κs = search needs
 
 returns : tie.Need-returns
-returns c = search needs
-
-returns-2 : tie.Need-returns-2
-returns-2 c = search needs
-
-returns-3 : tie.Need-returns-3
-returns-3 c = ap (λ (k : Kind). areaIn k (c .before .before .args .size)) (sym (c .enum-told3 .given .1))
-
-returns-4 : tie.Need-returns-4
-returns-4 c = search needs
-
-returns-5 : tie.Need-returns-5
-returns-5 c = search needs
-
-returns-6 : tie.Need-returns-6
-returns-6 c = search needs
-
-returns-7 : tie.Need-returns-7
-returns-7 c = search needs
-
-returns-8 : tie.Need-returns-8
-returns-8 c = search needs
+returns c = c .area .ensures ∙ ap (λ (m : Mapper). areaOf m (c .before .before .args .size)) (c .before .start .ensures)
 
 pub area-of-spec : {M : Type 1} → statement M
-area-of-spec =
-    tie.close
-    (tie.spec
-    enum-told
-    enum-told-2
-    enum-told-3
-    add-result
-    enum-told-4
-    enum-told-5
-    enum-told-6
-    enum-told-7
-    enum-told-8
-    returns
-    returns-2
-    returns-3
-    returns-4
-    returns-5
-    returns-6
-    returns-7
-    returns-8)
+area-of-spec = tie.close (tie.spec start-requires area-requires returns)
