@@ -1,0 +1,119 @@
+-- A mapper's fields stored, a cartridge read field by field, and the answer by its kind. Assumes nothing.
+use mathlib.Core.Bool.{Bool, true, false}
+use mathlib.Core.List.{List, [], _∷_}
+use mathlib.Core.Path.{_≡_, refl, sym, ap, _∙_}
+use Prim.Native.Nat.{ℕ, suc, _≤_}
+use native.Mathlib.Omega.{arith}
+use lib.ListN.{replicate, List·getD-eq-default}
+use Rattle.facts.specs.Choice.{pick, both}
+use Rattle.bytes_le.specs.Little.{fieldAt}
+use Rattle.clock.specs.declared.Clock.{Clock}
+use Rattle.mbc1.specs.Registers as mbc1
+use Rattle.mbc2.specs.Registers as mbc2
+use Rattle.mbc3.specs.Registers as mbc3
+use Rattle.mbc3.specs.declared.Mbc3 as mbc3-state
+use Rattle.mbc5.specs.Registers as mbc5
+use Rattle.mapper.specs.declared.Mapper.{Mapper}
+use Rattle.mapper.specs.declared.Mapper.the-variants.{Mbc3}
+use Rattle.cartridge.specs.declared.Cartridge.{Cartridge}
+use Rattle.state_fields.specs.Fields.{stored, isFlag, areFlags}
+use Rattle.state_fields.specs.ClockFields.{clock}
+use Rattle.state_fields.proofs.Laws.{store-on, flags-one, flags-both}
+use Rattle.states.specs.Layout.{kindOf, registers, mbc3Fields, mapper, board, encodeOf}
+use Rattle.states.specs.Reading.{flagLists, flagsOf, mbc3In, cartIn, carts, mappersIn, byKind, decodeOf}
+use Rattle.states.specs.declared.Decoded.{Decoded}
+use Rattle.states.specs.declared.Decoded.the-variants.{To, NoState}
+
+-- ---- writing
+
+-- by the mapper that was told, and an MBC3 by its timer
+pub mapper-told : {m n : Mapper} (s : List ℕ) {r : List ℕ} → m ≡ n → r ≡ stored (mapper n) s → r ≡ stored (mapper m) s
+mapper-told s e p = p ∙ ap (λ (x : Mapper). stored (mapper x) s) (sym e)
+
+pub timed-stored : (m : mbc3-state.Mbc3) (s : List ℕ) {r t : List ℕ} → m .timer ≡ true
+    → r ≡ stored (registers (m .enabled) (m .memory) (m .bank) (m .ram) (m .register)) s → t ≡ stored (clock (m .clock)) r
+    → t ≡ stored (mapper (Mbc3 m)) s
+unfolding stored
+timed-stored m s e p q = store-on (clock (m .clock)) p q ∙ ap (λ (b : Bool). stored (mbc3Fields m b) s) (sym e)
+
+pub untimed-stored : (m : mbc3-state.Mbc3) (s : List ℕ) {r : List ℕ} → m .timer ≡ false
+    → r ≡ stored (registers (m .enabled) (m .memory) (m .bank) (m .ram) 0) s → r ≡ stored (mapper (Mbc3 m)) s
+untimed-stored m s e p = p ∙ ap (λ (b : Bool). stored (mbc3Fields m b) s) (sym e)
+
+pub encoded : (c : Cartridge) {r t : List ℕ} → r ≡ stored (board c) (replicate 64 0) → t ≡ stored (mapper (c .mapper)) r → t ≡ encodeOf c
+unfolding encodeOf stored
+encoded c p q = store-on (mapper (c .mapper)) p q
+
+-- ---- flags
+
+pub two-flags : (s : List ℕ) {a b r : Bool} → a ≡ isFlag s 1 → b ≡ isFlag s 2 → r ≡ both a b → r ≡ areFlags s (1 ∷ 2 ∷ [])
+two-flags s p q e = flags-both s (1 ∷ []) (2 ∷ []) (flags-one s 1 p) (flags-one s 2 q) e
+
+pub three-flags : (s : List ℕ) {a b d r t : Bool} → a ≡ isFlag s 1 → b ≡ isFlag s 2 → r ≡ both a b → d ≡ isFlag s 3 → t ≡ both r d
+    → t ≡ areFlags s (1 ∷ 2 ∷ 3 ∷ [])
+three-flags s p q e x y = flags-both s (1 ∷ 2 ∷ []) (3 ∷ []) (two-flags s p q e) (flags-one s 3 x) y
+
+pub kind-flags : (s : List ℕ) {kind k : ℕ} {r : Bool} → kind ≡ k → r ≡ areFlags s (flagsOf k) → r ≡ areFlags s (flagsOf kind)
+kind-flags s e p = p ∙ ap (λ (k : ℕ). areFlags s (flagsOf k)) (sym e)
+
+above : (n k : ℕ) → n ≤ k → (k ≡ n → ⊥) → suc n ≤ k
+above n k l h = omega arith
+
+-- none of the seven kinds
+pub past-last : (k : ℕ) → (k ≡ 0 → ⊥) → (k ≡ 1 → ⊥) → (k ≡ 2 → ⊥) → (k ≡ 3 → ⊥) → (k ≡ 4 → ⊥) → (k ≡ 5 → ⊥) → (k ≡ 6 → ⊥) → 7 ≤ k
+past-last k a b d e f g h =
+    above 6 k (above 5 k (above 4 k (above 3 k (above 2 k (above 1 k (above 0 k (omega arith) a) b) d) e) f) g) h
+
+-- a kind beyond the last has no flags, and is no state
+pub flags-unknown : (s : List ℕ) (kind : ℕ) → 7 ≤ kind → true ≡ areFlags s (flagsOf kind)
+unfolding areFlags flagsOf
+flags-unknown s kind h = ap (areFlags s) (sym (List·getD-eq-default flagLists [] h))
+
+pub no-kind : (s : List ℕ) (kind : ℕ) → 7 ≤ kind → NoState ≡ byKind s kind
+unfolding byKind
+no-kind s kind h = sym (List·getD-eq-default (carts s (mappersIn s)) NoState h)
+
+-- ---- the answer
+
+pub kind-to : (s : List ℕ) (m : Mapper) {kind k : ℕ} {n : Mapper} {r : Decoded} → kind ≡ k → n ≡ m → r ≡ To (cartIn s n)
+    → To (cartIn s m) ≡ byKind s k
+    → r ≡ byKind s kind
+kind-to s m h p q e = q ∙ ap (λ (x : Mapper). To (cartIn s x)) p ∙ e ∙ ap (byKind s) (sym h)
+
+pub decoded : (s : List ℕ) {kind : ℕ} {t : Bool} {r : Decoded} (u : Bool) → kind ≡ fieldAt 1 s 0 → t ≡ areFlags s (flagsOf kind)
+    → t ≡ u → r ≡ pick u (byKind s kind) NoState
+    → r ≡ decodeOf s
+unfolding decodeOf
+decoded s {kind} u p q e h =
+    h
+    ∙ ap (λ (b : Bool). pick b (byKind s kind) NoState) (sym e ∙ q)
+    ∙ ap (λ (k : ℕ). pick (areFlags s (flagsOf k)) (byKind s k) NoState) p
+
+-- ---- reading, field by field
+
+pub cart-of : {l l′ b b′ s s′ : ℕ} {t t′ : Bool} (m : Mapper) → l ≡ l′ → b ≡ b′ → s ≡ s′ → t ≡ t′
+    → To (record { length = l; banks = b; size = s; battery = t; mapper = m })
+    ≡ To (record { length = l′; banks = b′; size = s′; battery = t′; mapper = m })
+cart-of m p q r e = cc
+
+pub mbc1-of : {a b b′ d d′ : Bool} {x x′ y y′ : ℕ} → b ≡ b′ → d ≡ d′ → x ≡ x′ → y ≡ y′ → mbc1.mbc1 a b d x y ≡ mbc1.mbc1 a b′ d′ x′ y′
+mbc1-of p q r e = cc
+
+pub mbc2-of : {b b′ : Bool} {x x′ : ℕ} → b ≡ b′ → x ≡ x′ → mbc2.mbc2 b x ≡ mbc2.mbc2 b′ x′
+mbc2-of p q = cc
+
+pub mbc3-of : {t a a′ b b′ : Bool} {x x′ y y′ z z′ : ℕ} {k k′ : Clock} → a ≡ a′ → x ≡ x′ → b ≡ b′ → y ≡ y′ → z ≡ z′ → k ≡ k′
+    → mbc3.mbc3 t a x b y z k ≡ mbc3.mbc3 t a′ x′ b′ y′ z′ k′
+mbc3-of p q r e f g = cc
+
+pub mbc3-to : (s : List ℕ) (t : Bool) {x : mbc3-state.Mbc3} {n n′ : ℕ} {k k′ : Clock} → x ≡ mbc3In s t n k → n ≡ n′ → k ≡ k′
+    → Mbc3 x ≡ Mbc3 (mbc3In s t n′ k′)
+mbc3-to s t p q r = ap Mbc3 (p ∙ mbc3-of refl refl refl refl q r)
+
+pub mbc5-of : {b b′ : Bool} {x x′ y y′ : ℕ} → b ≡ b′ → x ≡ x′ → y ≡ y′ → mbc5.mbc5 b x y ≡ mbc5.mbc5 b′ x′ y′
+mbc5-of p q r = cc
+
+-- ---- by the kind
+
+pub kind-told : {m : Mapper} {x : mbc3-state.Mbc3} (t : Bool) → m ≡ Mbc3 x → x .timer ≡ t → pick t 5 4 ≡ kindOf m
+kind-told t e p = ap (λ (b : Bool). pick b 5 4) (sym p) ∙ ap kindOf (sym e)

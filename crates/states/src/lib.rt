@@ -1,0 +1,236 @@
+// A cartridge as 64 bytes, for callers that keep it between calls. Every byte has its place in the table of specs/Layout.antt; what
+// the mapper does not use, and what no field has, is written as zero and not looked at.
+ghost use mathlib.Core.Path.{_≡_};
+ghost use Prim.Native.Nat.{_≤_};
+ghost use lib.ListN.{length};
+ghost use Rattle.mapper.specs.declared.Mapper.the-variants as by;
+ghost use Rattle.state_fields.specs.Fields.{stored, areFlags};
+ghost use Rattle.states.specs.Layout.{board, registers, mapper, kindOf, encodeOf};
+ghost use Rattle.states.specs.Reading.{flagsOf, mbc1In, mbc2In, mbc3In, mbc5In, cartIn, byKind, decodeOf};
+ghost use Rattle.states.specs.declared.Decoded.the-variants.{To};
+use cartridge::Cartridge;
+use clock::Clock;
+use facts::both;
+use mapper::Mapper;
+use mbc1::Mbc1;
+use mbc2::Mbc2;
+use mbc3::Mbc3;
+use mbc5::Mbc5;
+use no_mapper::NoMapper;
+use state_fields::are_clock_flags;
+use state_fields::clock_in;
+use state_fields::flag_at;
+use state_fields::is_flag;
+use state_fields::put_clock;
+use state_fields::put_flag;
+
+// Bytes of a state.
+pub const STATE_SIZE: usize = 64;
+
+pub enum Decoded {
+    To(Cartridge),
+    // An unknown kind, or a flag that is neither 0 nor 1.
+    NoState,
+}
+
+fn kind_of(m: Mapper) -> u8
+    ensures { λ r. ⌜ r ≡ kindOf m ⌝ }
+{
+    match m {
+        Mapper::NoMapper(_) => 0,
+        Mapper::Mbc1(mbc1) => {
+            if mbc1.multicart {
+                return 2;
+            }
+            1
+        }
+        Mapper::Mbc2(_) => 3,
+        Mapper::Mbc3(mbc3) => {
+            if mbc3.timer {
+                return 5;
+            }
+            4
+        }
+        Mapper::Mbc5(_) => 6,
+    }
+}
+
+fn put_board(s: &mut [u8], cart: Cartridge)
+    requires { ⌜ 64 ≤ length (now s) ⌝ }
+    ensures { λ _. ⌜ now (s .exit) ≡ stored (board cart) (now (s .entry)) ⌝ }
+{
+    let m = cart.mapper;
+    bytes_le::write_u8(s, 0, kind_of(m));
+    put_flag(s, 1, cart.battery);
+    bytes_le::write_u16(s, 8, cart.banks);
+    bytes_le::write_u64(s, 16, cart.length as u64);
+    bytes_le::write_u64(s, 24, cart.size as u64);
+}
+
+fn put_registers(s: &mut [u8], enabled: bool, mode: bool, bank: u16, ram: u8, register: u8)
+    requires { ⌜ 64 ≤ length (now s) ⌝ }
+    ensures { λ _. ⌜ now (s .exit) ≡ stored (registers enabled mode bank ram register) (now (s .entry)) ⌝ }
+{
+    put_flag(s, 2, enabled);
+    put_flag(s, 3, mode);
+    bytes_le::write_u16(s, 4, bank);
+    bytes_le::write_u8(s, 6, ram);
+    bytes_le::write_u8(s, 7, register);
+}
+
+fn put_mbc3(s: &mut [u8], m: Mbc3)
+    requires { ⌜ 64 ≤ length (now s) ⌝ }
+    ensures { λ _. ⌜ now (s .exit) ≡ stored (mapper (by.Mbc3 m)) (now (s .entry)) ⌝ }
+{
+    if m.timer {
+        let k = m.clock;
+        put_registers(s, m.enabled, m.memory, m.bank as u16, m.ram, m.register);
+        put_clock(s, k);
+        return;
+    }
+    put_registers(s, m.enabled, m.memory, m.bank as u16, m.ram, 0);
+}
+
+fn put_mapper(s: &mut [u8], m: Mapper)
+    requires { ⌜ 64 ≤ length (now s) ⌝ }
+    ensures { λ _. ⌜ now (s .exit) ≡ stored (mapper m) (now (s .entry)) ⌝ }
+{
+    match m {
+        Mapper::NoMapper(_) => {}
+        Mapper::Mbc1(mbc1) => {
+            put_registers(s, mbc1.enabled, mbc1.mode, mbc1.low as u16, mbc1.two, 0);
+        }
+        Mapper::Mbc2(mbc2) => {
+            put_registers(s, mbc2.enabled, false, mbc2.bank as u16, 0, 0);
+        }
+        Mapper::Mbc3(mbc3) => {
+            put_mbc3(s, mbc3);
+        }
+        Mapper::Mbc5(mbc5) => {
+            put_registers(s, mbc5.enabled, false, mbc5.bank, mbc5.ram, 0);
+        }
+    }
+}
+
+// Writes a cartridge as the 64 bytes of its state.
+pub fn encode(cart: Cartridge, s: &mut [u8; 64])
+    ensures { λ _. ⌜ now (s .exit) ≡ encodeOf cart ⌝ }
+{
+    let m = cart.mapper;
+    *s = [0; 64];
+    put_board(s, cart);
+    put_mapper(s, m);
+}
+
+// Whether every flag that this kind of cartridge uses is one.
+fn are_flags(s: &[u8], kind: u8) -> bool
+    requires { ⌜ 64 ≤ length (now s) ⌝ }
+    ensures { λ r. ⌜ r ≡ areFlags (now (s .entry)) (flagsOf kind) ⌝ }
+{
+    let one = is_flag(s, 1);
+    let two = both(one, is_flag(s, 2));
+    let three = both(two, is_flag(s, 3));
+    match kind {
+        0 => one,
+        1 => three,
+        2 => three,
+        3 => two,
+        4 => three,
+        5 => both(three, are_clock_flags(s)),
+        6 => two,
+        _ => true,
+    }
+}
+
+fn mbc1_in(s: &[u8], multicart: bool) -> Mbc1
+    requires { ⌜ 64 ≤ length (now s) ⌝ }
+    ensures { λ r. ⌜ r ≡ mbc1In (now (s .entry)) multicart ⌝ }
+{
+    Mbc1 {
+        multicart,
+        enabled: flag_at(s, 2),
+        mode: flag_at(s, 3),
+        low: bytes_le::read_u8(s, 4),
+        two: bytes_le::read_u8(s, 6),
+    }
+}
+
+fn mbc2_in(s: &[u8]) -> Mbc2
+    requires { ⌜ 64 ≤ length (now s) ⌝ }
+    ensures { λ r. ⌜ r ≡ mbc2In (now (s .entry)) ⌝ }
+{
+    Mbc2 {
+        enabled: flag_at(s, 2),
+        bank: bytes_le::read_u8(s, 4),
+    }
+}
+
+// An MBC3 with this clock and this register of it selected.
+fn mbc3_in(s: &[u8], timer: bool, register: u8, clock: Clock) -> Mbc3
+    requires { ⌜ 64 ≤ length (now s) ⌝ }
+    ensures { λ r. ⌜ r ≡ mbc3In (now (s .entry)) timer register clock ⌝ }
+{
+    Mbc3 {
+        timer,
+        enabled: flag_at(s, 2),
+        bank: bytes_le::read_u8(s, 4),
+        memory: flag_at(s, 3),
+        ram: bytes_le::read_u8(s, 6),
+        register,
+        clock,
+    }
+}
+
+fn mbc5_in(s: &[u8]) -> Mbc5
+    requires { ⌜ 64 ≤ length (now s) ⌝ }
+    ensures { λ r. ⌜ r ≡ mbc5In (now (s .entry)) ⌝ }
+{
+    Mbc5 {
+        enabled: flag_at(s, 2),
+        bank: bytes_le::read_u16(s, 4),
+        ram: bytes_le::read_u8(s, 6),
+    }
+}
+
+fn cart_in(s: &[u8], mapper: Mapper) -> Decoded
+    requires { ⌜ 64 ≤ length (now s) ⌝ }
+    ensures { λ r. ⌜ r ≡ To (cartIn (now (s .entry)) mapper) ⌝ }
+{
+    Decoded::To(Cartridge {
+        length: bytes_le::read_u64(s, 16) as usize,
+        banks: bytes_le::read_u16(s, 8),
+        size: bytes_le::read_u64(s, 24) as usize,
+        battery: flag_at(s, 1),
+        mapper,
+    })
+}
+
+fn by_kind(s: &[u8], kind: u8) -> Decoded
+    requires { ⌜ 64 ≤ length (now s) ⌝ }
+    ensures { λ r. ⌜ r ≡ byKind (now (s .entry)) kind ⌝ }
+{
+    match kind {
+        0 => cart_in(s, Mapper::NoMapper(NoMapper::new())),
+        1 => cart_in(s, Mapper::Mbc1(mbc1_in(s, false))),
+        2 => cart_in(s, Mapper::Mbc1(mbc1_in(s, true))),
+        3 => cart_in(s, Mapper::Mbc2(mbc2_in(s))),
+        4 => cart_in(s, Mapper::Mbc3(mbc3_in(s, false, 0, Clock::new(0)))),
+        5 => cart_in(
+            s,
+            Mapper::Mbc3(mbc3_in(s, true, bytes_le::read_u8(s, 7), clock_in(s))),
+        ),
+        6 => cart_in(s, Mapper::Mbc5(mbc5_in(s))),
+        _ => Decoded::NoState,
+    }
+}
+
+// The cartridge that 64 bytes stand for. Whether it is fit is for the calls to ask.
+pub fn decode(s: &[u8; 64]) -> Decoded
+    ensures { λ r. ⌜ r ≡ decodeOf (now (s .entry)) ⌝ }
+{
+    let kind = bytes_le::read_u8(s, 0);
+    if are_flags(s, kind) {
+        return by_kind(s, kind);
+    }
+    Decoded::NoState
+}
