@@ -1,4 +1,5 @@
 pub mod RefusingLaws
+pub mod InTimeLaws
 pub mod Demand1
 pub mod Demand2
 pub mod Demand3

@@ -1,0 +1,69 @@
+-- `player::imf_window_read` meets its contract: by what is seen. Assumes nothing.
+use borrow.Author.Needs.{needs}
+use Rattle.player.proofs.imf_window_read.Statement.{statement}
+use Rattle.player.proofs.imf_window_read.Tie as tie
+use mathlib.Core.Path.{sym, ap, _∙_}
+use denote.Ref.{now}
+use Rattle.windows.specs.Through.{seenOf}
+use Rattle.windows.specs.declared.Windows.{Windows}
+use Rattle.player.specs.Windows.{seenNumber, windowRead}
+
+windows-in-requires : tie.Need-windows-in-requires
+windows-in-requires c κs = search needs
+
+read-requires : tie.Need-read-requires
+read-requires c κs = search needs
+
+enum-known-b : tie.Need-enum-known-b
+enum-known-b c = search needs
+
+cast-result : tie.Need-cast-result
+cast-result c = search needs
+
+enum-told : tie.Need-enum-told
+enum-told c = search needs
+
+add-result : tie.Need-add-result
+add-result c = search needs
+
+enum-told-2 : tie.Need-enum-told-2
+enum-told-2 c = search needs
+
+returns : tie.Need-returns
+unfolding windowRead
+returns c = let r = c .before .before .before in
+    let a = r .before .before .before .before .args in
+    ap seenNumber
+    (sym (c .before .b .given .1) ∙ r .read .ensures
+    ∙ ap (λ (w : Windows). seenOf w (now (a .image)) (now (a .ram)) (a .addr)) (r .before .windows-in .ensures))
+
+returns-2 : tie.Need-returns-2
+unfolding windowRead
+returns-2 c = let r = c .before .before in
+    let a = r .before .before .before .before .args in
+    ap seenNumber
+    (sym (c .enum-told .given .1) ∙ r .read .ensures
+    ∙ ap (λ (w : Windows). seenOf w (now (a .image)) (now (a .ram)) (a .addr)) (r .before .windows-in .ensures))
+
+returns-3 : tie.Need-returns-3
+unfolding windowRead
+returns-3 c = let r = c .before .before in
+    let a = r .before .before .before .before .args in
+    ap seenNumber
+    (sym (c .enum-told2 .given .1) ∙ r .read .ensures
+    ∙ ap (λ (w : Windows). seenOf w (now (a .image)) (now (a .ram)) (a .addr)) (r .before .windows-in .ensures))
+
+pub imf-window-read-spec : {M : Type 1} → statement M
+imf-window-read-spec =
+    tie.close
+    (tie.spec
+    windows-in-requires
+    read-requires
+    enum-known-b
+    cast-result
+    enum-told
+    add-result
+    enum-told-2
+    returns
+    returns-2
+    returns-3)

@@ -1,0 +1,5 @@
+pub mod OnState
+pub mod Header
+pub mod Bus
+pub mod Save
+pub mod Windows
