@@ -52,6 +52,8 @@ pub mod trace;
 pub use refusal::Refusal;
 pub use sys::State;
 
+use std::fmt;
+
 /// Mapper clocks in a second.
 pub const CLOCKS_PER_SECOND: u64 = 2_097_152;
 
@@ -134,7 +136,7 @@ pub enum Loaded {
 }
 
 /// A mounted cartridge, with its image and RAM.
-#[derive(Clone, Debug)]
+#[derive(Clone)]
 pub struct Cartridge {
     image: Vec<u8>,
     ram: Vec<u8>,
@@ -144,7 +146,7 @@ pub struct Cartridge {
 }
 
 /// Where the windows stand, and how the RAM's is mapped.
-#[derive(Clone, Copy, Debug)]
+#[derive(Clone, Copy)]
 struct Windows {
     rom0: usize,
     romx: usize,
@@ -363,6 +365,19 @@ impl Cartridge {
     /// The 64 bytes that, with the image and the RAM, are the cartridge. The same cartridge has the same bytes.
     pub fn state(&self) -> &State {
         &self.state
+    }
+}
+
+// The image and the RAM by their lengths.
+impl fmt::Debug for Cartridge {
+    fn fmt(&self, f: &mut fmt::Formatter<'_>) -> fmt::Result {
+        f.debug_struct("Cartridge")
+            .field("title", &self.title())
+            .field("facts", &self.facts)
+            .field("image", &format_args!("{} bytes", self.image.len()))
+            .field("ram", &format_args!("{} bytes", self.ram.len()))
+            .field("state", &self.state)
+            .finish()
     }
 }
 
