@@ -1,12 +1,19 @@
-.PHONY: test replay kit
+.PHONY: test replay kit player player-library player-test valgrind x86-64
 
 # The folder with `cart.rom` and `cart.trace` that `make replay` runs on.
 DIR ?= crates/replay/data
 
-# Every crate proved from nothing, every wrong program refused, every program run. The last line is 'N passed, M failed'.
+# The folder of libplayer.a. Where PLAYER_LIB names one, that library is taken as it stands.
+LIBRARY := $(if $(PLAYER_LIB),$(abspath $(PLAYER_LIB)),$(CURDIR)/target/staticlib)
+PLAYER := $(CURDIR)/target/player
+CARGO = cd player/rust && IMFELKUZ_LIB="$(LIBRARY)" CARGO_TARGET_DIR="$(PLAYER)/cargo" ../../tools/x86-64 cargo
+BUILT = $(PLAYER)/cargo/x86_64-unknown-linux-gnu
+
+# What links the library is tried first. Then every crate is proved from nothing, every wrong program refused, every program run. The
+# last line is 'N passed, M failed'.
 # A program's arrays stand on the stack, and images of 8 MiB need more than the usual limit. Four provers at a time keep two cores
 # busy: the wrong programs go in rounds that wait for their slowest.
-test: kit
+test: kit player-test
 	@ulimit -S -s 65536 2>/dev/null || ulimit -S -s 16384 2>/dev/null || { \
 	  echo "The stack cannot be raised to 16 MiB: 'ulimit -H -s' says $$(ulimit -H -s) KiB. The programs large_vectors, bus_vectors and save_vectors need more than 8192."; \
 	  exit 1; }; \
@@ -18,6 +25,43 @@ replay: kit
 	@echo "Proving and building the replay program: minutes the first time, then at once." >&2
 	@rt check replay >target/replay.log 2>&1 || { cat target/replay.log; exit 1; }
 	@tools/run-program "$(CURDIR)/target/bin/replay" "$(DIR)"
+
+# The library that players link, proved and built where that is not yet done, and what links it: the Rust crate with its example and
+# its pages, and the C test.
+player: x86-64 player-library
+	@$(CARGO) build --quiet --offline --release --examples
+	@$(CARGO) doc --quiet --offline --no-deps
+	@mkdir -p "$(PLAYER)/c"
+	@tools/x86-64 cc -std=c11 -O2 -Wall -Wextra -Werror -Iinclude player/c/test.c "$(LIBRARY)/libplayer.a" -o "$(PLAYER)/c/test-c"
+	@echo "$(LIBRARY)/libplayer.a, include/imfelkuz.h, player/rust; the example is $(BUILT)/release/examples/play"
+
+player-library:
+ifeq ($(PLAYER_LIB),)
+player-library: kit
+	@mkdir -p target
+	@echo "Proving and building libplayer.a: minutes the first time, then at once." >&2
+	@rt staticlib player >target/player.log 2>&1 || { cat target/player.log; exit 1; }
+endif
+
+# The header in C and C++, the crate's tests, and its example on the bundled trace.
+player-test: x86-64 player-library
+	@player/c/check "$(LIBRARY)/libplayer.a" "$(PLAYER)/c"
+	@$(CARGO) test --quiet --offline
+	@$(CARGO) build --quiet --offline --examples
+	@tools/x86-64 run "$(BUILT)/debug/examples/play" crates/replay/data/cart.rom crates/replay/data/cart.trace "$(PLAYER)/cart.sav" \
+	  >"$(PLAYER)/play.txt" && cmp "$(PLAYER)/play.txt" crates/replay/stdout && echo "play: the lines of crates/replay/stdout"
+
+# The C test and the tests of lengths under valgrind: minutes. It runs programs of its own machine only.
+valgrind: x86-64 player-library
+	@tools/x86-64 native || { echo "valgrind runs x86-64 programs on x86-64 machines only, and this is $$(uname -m)."; exit 1; }
+	@command -v valgrind >/dev/null 2>&1 || { echo "valgrind is missing: package valgrind."; exit 1; }
+	@mkdir -p "$(PLAYER)/c"
+	@tools/x86-64 cc -std=c11 -O1 -g -Iinclude player/c/test.c "$(LIBRARY)/libplayer.a" -o "$(PLAYER)/c/test-valgrind"
+	@valgrind --quiet --error-exitcode=1 --leak-check=full "$(PLAYER)/c/test-valgrind"
+	@export CARGO_TARGET_X86_64_UNKNOWN_LINUX_GNU_RUNNER="valgrind --quiet --error-exitcode=1"; $(CARGO) test --quiet --offline --test lengths
+
+x86-64:
+	@tools/x86-64 check
 
 kit:
 	@command -v rt >/dev/null 2>&1 || { \
