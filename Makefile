@@ -1,4 +1,4 @@
-.PHONY: test replay kit player player-library player-test valgrind x86-64
+.PHONY: test replay kit player player-library player-test valgrind bench x86-64
 
 # The folder with `cart.rom` and `cart.trace` that `make replay` runs on.
 DIR ?= crates/replay/data
@@ -59,6 +59,10 @@ valgrind: x86-64 player-library
 	@tools/x86-64 cc -std=c11 -O1 -g -Iinclude player/c/test.c "$(LIBRARY)/libplayer.a" -o "$(PLAYER)/c/test-valgrind"
 	@valgrind --quiet --error-exitcode=1 --leak-check=full "$(PLAYER)/c/test-valgrind"
 	@export CARGO_TARGET_X86_64_UNKNOWN_LINUX_GNU_RUNNER="valgrind --quiet --error-exitcode=1"; $(CARGO) test --quiet --offline --test lengths
+
+# Times and instruction counts; with ORIGINAL=folder of mizu-core 1.3.0's source beside it too. player/bench says what is measured.
+bench: x86-64 player-library
+	@ORIGINAL="$(ORIGINAL)" player/bench/run "$(LIBRARY)" "$(PLAYER)/bench"
 
 x86-64:
 	@tools/x86-64 check

@@ -42,13 +42,7 @@ fn replay(cart: &mut Cartridge, trace: &[u8]) {
 fn play(image: &str, trace: &str, save: Option<&str>) -> Result<(), Box<dyn Error>> {
     let mut cart = Cartridge::mount(fs::read(image)?, now())?;
     let facts = cart.facts();
-    eprintln!(
-        "{:?}, {:?}, {} ROM banks, {} bytes of RAM",
-        cart.title(),
-        facts.kind,
-        facts.rom_banks,
-        facts.ram_area
-    );
+    eprintln!("{:?}, {:?}, {} ROM banks, {} bytes of RAM", cart.title(), facts.kind, facts.rom_banks, facts.ram_area);
     if let Some(save) = save {
         match fs::read(save) {
             Ok(bytes) => match cart.load(&bytes, now())? {

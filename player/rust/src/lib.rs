@@ -164,13 +164,7 @@ impl Windows {
         let mut found = [0; 6];
         done(sys::windows(state, &mut found))?;
         let [rom0, romx, ram, mask, how, _] = found;
-        Ok(Windows {
-            rom0: rom0 as usize,
-            romx: romx as usize,
-            ram: ram as usize,
-            mask: mask as usize,
-            how,
-        })
+        Ok(Windows { rom0: rom0 as usize, romx: romx as usize, ram: ram as usize, mask: mask as usize, how })
     }
 
     #[inline]
@@ -190,13 +184,7 @@ impl Cartridge {
         let mut state = [0; sys::STATE_SIZE];
         done(sys::mount(&mut state, &image, &mut ram, wall))?;
         let windows = Windows::of(&state)?;
-        Ok(Cartridge {
-            image,
-            ram,
-            state,
-            windows,
-            facts,
-        })
+        Ok(Cartridge { image, ram, state, windows, facts })
     }
 
     /// A cartridge again from what [`into_parts`](Cartridge::into_parts) gave, or from bytes that were kept elsewhere.
@@ -208,13 +196,7 @@ impl Cartridge {
         let facts = Facts::of(&image)?;
         byte(sys::read(&state, &image, &ram, 0x0000))?;
         let windows = Windows::of(&state)?;
-        Ok(Cartridge {
-            image,
-            ram,
-            state,
-            windows,
-            facts,
-        })
+        Ok(Cartridge { image, ram, state, windows, facts })
     }
 
     /// The image, the RAM and the state.

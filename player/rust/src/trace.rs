@@ -40,11 +40,7 @@ pub struct Records<'a> {
 impl<'a> Records<'a> {
     /// A reader at the start of a trace.
     pub fn new(trace: &'a [u8]) -> Self {
-        Records {
-            trace,
-            place: 0,
-            stopped: false,
-        }
+        Records { trace, place: 0, stopped: false }
     }
 
     /// The byte place of the next record, or of what is none.

@@ -44,12 +44,7 @@ fn case(len: usize, ty: u8, rom: u8, ram: u8) -> Case {
     let mut state = [0; 64];
     assert_eq!(sys::mount(&mut state, &image, &mut vec![0; facts.ram_area], 1000), 0);
     let block = if facts.timer { 21 } else { 0 };
-    Case {
-        image,
-        area: facts.ram_area,
-        size: facts.ram_area + block,
-        state,
-    }
+    Case { image, area: facts.ram_area, size: facts.ram_area + block, state }
 }
 
 // With and without RAM, half-bytes and a timer. Every length up to some beyond the right one is tried, so the areas are small.
@@ -179,10 +174,7 @@ fn a_save_is_read_from_as_many_bytes_as_the_area_has() {
         for n in (0..case.area).chain(case.area + 1..case.area + MORE) {
             let (mut ram, mut save, mut state, mut clock) = (Guarded::new(n), Guarded::new(n % 9), case.state, 7);
             assert_eq!(sys::save_in(&mut state, ram.inside(), save.inside(), 1000, &mut clock), 14);
-            assert_eq!(
-                (ram, save, state, clock),
-                (Guarded::new(n), Guarded::new(n % 9), case.state, 7)
-            );
+            assert_eq!((ram, save, state, clock), (Guarded::new(n), Guarded::new(n % 9), case.state, 7));
         }
     }
 }

@@ -7,9 +7,8 @@ use common::{byte, done, Draw};
 use imfelkuz::sys::{self, State};
 use imfelkuz::Cartridge;
 
-const PLACES: [u16; 14] = [
-    0x0000, 0x0104, 0x3FFF, 0x4000, 0x4001, 0x7FFF, 0x8000, 0x9FFF, 0xA000, 0xA7FF, 0xA800, 0xBFFF, 0xC000, 0xFFFF,
-];
+const PLACES: [u16; 14] =
+    [0x0000, 0x0104, 0x3FFF, 0x4000, 0x4001, 0x7FFF, 0x8000, 0x9FFF, 0xA000, 0xA7FF, 0xA800, 0xBFFF, 0xC000, 0xFFFF];
 
 fn addr(draw: &mut Draw) -> u16 {
     match draw.below(4) {
@@ -24,12 +23,7 @@ fn addr(draw: &mut Draw) -> u16 {
 fn image_of(all: &[u8], shape: &Shape) -> Vec<u8> {
     let mut image = all[..shape.length].to_vec();
     let code = states::RAM_SIZES.iter().position(|n| *n == shape.size as u64).unwrap();
-    put_header(
-        &mut image,
-        states::TYPES[shape.kind as usize],
-        (shape.banks.trailing_zeros() - 1) as u8,
-        code as u8,
-    );
+    put_header(&mut image, states::TYPES[shape.kind as usize], (shape.banks.trailing_zeros() - 1) as u8, code as u8);
     image
 }
 
@@ -214,11 +208,7 @@ fn try_state(draw: &mut Draw, state: &State, image: &[u8], ram: &mut [u8]) -> bo
 
     let mut next = *state;
     let mut clock = 9;
-    let save: Vec<u8> = before
-        .iter()
-        .map(|b| b ^ 0xFF)
-        .chain((0..draw.below(24) as u8).map(|i| i % 16))
-        .collect();
+    let save: Vec<u8> = before.iter().map(|b| b ^ 0xFF).chain((0..draw.below(24) as u8).map(|i| i % 16)).collect();
     if check(sys::save_in(&mut next, ram, &save, n, &mut clock), &[0, 14, 17, 18, 20]) != 0 {
         assert_eq!((&next, &ram[..], clock), (state, &before[..], 9));
     } else {
@@ -247,10 +237,7 @@ fn bytes_that_are_no_state_are_number_13() {
             state.iter_mut().for_each(|b| *b %= 7);
         }
         if round % 3 == 2 {
-            state
-                .iter_mut()
-                .enumerate()
-                .for_each(|(i, b)| *b = if i < 9 || *b < 20 { *b % 3 } else { 0 });
+            state.iter_mut().enumerate().for_each(|(i, b)| *b = if i < 9 || *b < 20 { *b % 3 } else { 0 });
         }
         let mut ram = vec![0x33; 0x2000];
         fit_ones += try_state(&mut draw, &state, &image, &mut ram) as u32;

@@ -41,9 +41,8 @@ fn images_1_to_11() {
     refused(&spoilt(&good, 0x13C, 0xC3), Refusal::BadTitle);
     assert!(Cartridge::mount(spoilt(&good, 0x13D, 0xC3), 0).is_ok()); // behind the first zero
     for ty in 0..=255 {
-        let known = [
-            0, 1, 2, 3, 5, 6, 8, 9, 0xB, 0xC, 0xD, 0xF, 0x10, 0x11, 0x12, 0x13, 0x19, 0x1A, 0x1B, 0x1C, 0x1D, 0x1E, 0x20, 0x22,
-        ];
+        let known =
+            [0, 1, 2, 3, 5, 6, 8, 9, 0xB, 0xC, 0xD, 0xF, 0x10, 0x11, 0x12, 0x13, 0x19, 0x1A, 0x1B, 0x1C, 0x1D, 0x1E, 0x20, 0x22];
         let without_ram = [0, 1, 5, 0xB, 0xF, 0x11, 0x19, 0x1C];
         let image = spoilt(&good, 0x147, ty);
         if !known.contains(&ty) {
@@ -110,30 +109,15 @@ fn mounted(ty: u8, ram: u8) -> Cartridge {
 #[test]
 fn area_state_and_lengths_12_to_14() {
     let (image, ram, state) = mounted(0x10, 2).into_parts();
-    assert_eq!(
-        sys::mount(&mut [0; 64], &image, &mut [0; 0x1FFF], 0),
-        Refusal::WrongArea.number().into()
-    );
+    assert_eq!(sys::mount(&mut [0; 64], &image, &mut [0; 0x1FFF], 0), Refusal::WrongArea.number().into());
     let mut none = state;
     none[0] = 7;
     assert_eq!(Cartridge::from_parts(&image[..], &ram[..], none).unwrap_err(), Refusal::Unfit);
-    assert_eq!(
-        Cartridge::from_parts(&image[..], &ram[1..], state).unwrap_err(),
-        Refusal::WrongLength
-    );
+    assert_eq!(Cartridge::from_parts(&image[..], &ram[1..], state).unwrap_err(), Refusal::WrongLength);
     let longer = [&image[..], &[0]].concat();
-    assert_eq!(
-        Cartridge::from_parts(longer, &ram[..], state).unwrap_err(),
-        Refusal::BadRomSize
-    );
-    assert_eq!(
-        Cartridge::from_parts(&image[..0x7FFF], &ram[..], state).unwrap_err(),
-        Refusal::WrongLength
-    );
-    assert_eq!(
-        Cartridge::from_parts(&image[..], &ram[1..], none).unwrap_err(),
-        Refusal::Unfit
-    );
+    assert_eq!(Cartridge::from_parts(longer, &ram[..], state).unwrap_err(), Refusal::BadRomSize);
+    assert_eq!(Cartridge::from_parts(&image[..0x7FFF], &ram[..], state).unwrap_err(), Refusal::WrongLength);
+    assert_eq!(Cartridge::from_parts(&image[..], &ram[1..], none).unwrap_err(), Refusal::Unfit);
     assert_eq!(Cartridge::from_parts(image, ram, state).unwrap().state(), &state);
 }
 
@@ -178,20 +162,13 @@ fn time_17() {
     unchanged(&mut cart, |c| c.advance(1).unwrap_err(), Refusal::Late);
     // Without a timer nothing passes; with one, all of 64 bits from time 0.
     mounted(3, 2).advance(u64::MAX).unwrap();
-    Cartridge::mount(image(0x8000, 0x10, 0, 2), 0)
-        .unwrap()
-        .advance(u64::MAX)
-        .unwrap();
+    Cartridge::mount(image(0x8000, 0x10, 0, 2), 0).unwrap().advance(u64::MAX).unwrap();
 }
 
 #[test]
 fn saves_17_to_21() {
     let mut cart = mounted(2, 2);
-    for why in [
-        cart.save(0).unwrap_err(),
-        cart.save_size().unwrap_err(),
-        cart.save_into(&mut [], 0).unwrap_err(),
-    ] {
+    for why in [cart.save(0).unwrap_err(), cart.save_size().unwrap_err(), cart.save_into(&mut [], 0).unwrap_err()] {
         assert_eq!(why, Refusal::NoBattery);
     }
     unchanged(&mut cart, |c| c.load(&[], 0).unwrap_err(), Refusal::NoBattery);
@@ -227,10 +204,7 @@ fn saves_17_to_21() {
 fn traces_22_and_23() {
     let whole = b"WR\x00\x00\x0ARD\x00\xA0CK\x05\x00\x00\x00";
     let records: Vec<_> = Records::new(whole).collect();
-    assert_eq!(
-        records,
-        [Ok(Record::Write(0, 0x0A)), Ok(Record::Read(0xA000)), Ok(Record::Clocks(5))]
-    );
+    assert_eq!(records, [Ok(Record::Write(0, 0x0A)), Ok(Record::Read(0xA000)), Ok(Record::Clocks(5))]);
     for cut in 0..whole.len() {
         let mut reader = Records::new(&whole[..cut]);
         let last = reader.by_ref().last();
@@ -254,10 +228,7 @@ fn traces_22_and_23() {
         assert_eq!(reader.next(), None);
     }
     let mut reader = Records::new(b"RD\x00\xA0RX\x00\x00");
-    assert_eq!(
-        (reader.nth(1), reader.place(), reader.next()),
-        (Some(Err(Refusal::UnknownMark)), 4, None)
-    );
+    assert_eq!((reader.nth(1), reader.place(), reader.next()), (Some(Err(Refusal::UnknownMark)), 4, None));
     assert_eq!(Records::new(b"X").next(), Some(Err(Refusal::CutShort)));
 }
 
@@ -298,14 +269,8 @@ fn facts_of_each_type() {
     for (ty, rom, ram, len, kind, banks, size, area, battery, timer, rumble) in rows {
         let mut image = image(len, ty, rom, ram);
         let facts = Facts::of(&image).unwrap();
-        assert_eq!(
-            (facts.kind, facts.rom_banks, facts.ram_size, facts.ram_area),
-            (kind, banks, size, area)
-        );
-        assert_eq!(
-            (facts.battery, facts.timer, facts.rumble, facts.colour),
-            (battery, timer, rumble, false)
-        );
+        assert_eq!((facts.kind, facts.rom_banks, facts.ram_size, facts.ram_area), (kind, banks, size, area));
+        assert_eq!((facts.battery, facts.timer, facts.rumble, facts.colour), (battery, timer, rumble, false));
         image[0x143] = 0x80;
         mend_checksum(&mut image);
         assert!(Facts::of(&image).unwrap().colour);
@@ -336,9 +301,7 @@ fn titles() {
         let lead = draw.of(&[0x41, 0xC3, 0xE0, 0xED, 0xF0, 0xF4, 0x80]);
         draw.fill(&mut image[0x134..0x143]);
         image[0x134] = lead;
-        image[0x135..0x143]
-            .iter_mut()
-            .for_each(|b| *b = if *b < 0x20 { 0 } else { *b % 0x40 | 0x80 });
+        image[0x135..0x143].iter_mut().for_each(|b| *b = if *b < 0x20 { 0 } else { *b % 0x40 | 0x80 });
         image[0x138..0x143].fill(0);
         mend_checksum(&mut image);
         let title: Vec<u8> = image[0x134..0x143].iter().copied().take_while(|b| *b != 0).collect();

@@ -20,12 +20,7 @@ fn lines<B: Bus>() -> String {
         build::header(&mut image, case);
         let len = (case / 0x1000000 % 0x1000000) as usize;
         let area = (case / 0x1_0000_0000_0000 * 512) as usize;
-        let case = Case {
-            image: &image[..len],
-            area,
-            codes: (case % 0x1000000) as u32,
-            left: &left,
-        };
+        let case = Case { image: &image[..len], area, codes: (case % 0x1000000) as u32, left: &left };
         show::<B>(&mut out, &case, what, n);
     }
     out

@@ -11,9 +11,7 @@ pub fn recipe() -> Box<[u8; 0x800000]> {
 }
 
 pub fn mend_checksum(image: &mut [u8]) {
-    image[0x14D] = image[0x134..0x14D]
-        .iter()
-        .fold(0u8, |c, b| c.wrapping_sub(*b).wrapping_sub(1));
+    image[0x14D] = image[0x134..0x14D].iter().fold(0u8, |c, b| c.wrapping_sub(*b).wrapping_sub(1));
 }
 
 /// Writes a header with this type byte, ROM code and RAM code.

@@ -10,23 +10,12 @@ pub fn number(out: &mut String, letter: char, n: u64) {
 /// The cartridge that was mounted: length, type byte, banks, RAM size.
 pub fn heading(out: &mut String, image: &[u8], codes: u32) {
     let facts = imfelkuz::Facts::of(image).unwrap();
-    writeln!(
-        out,
-        "M {} {} {} {}",
-        image.len(),
-        codes / 65536 % 256,
-        facts.rom_banks,
-        facts.ram_size
-    )
-    .unwrap();
+    writeln!(out, "M {} {} {} {}", image.len(), codes / 65536 % 256, facts.rom_banks, facts.ram_size).unwrap();
 }
 
 /// Each byte counts with its place.
 pub fn sum(bytes: &[u8]) -> u64 {
-    bytes
-        .iter()
-        .fold(0u32, |s, b| s.wrapping_mul(31).wrapping_add((*b).into()))
-        .into()
+    bytes.iter().fold(0u32, |s, b| s.wrapping_mul(31).wrapping_add((*b).into())).into()
 }
 
 // The bank, then the byte: a mix of its place in the area, moved behind all places of an image.
@@ -34,8 +23,7 @@ fn filled<B: Bus>(out: &mut String, cart: &mut B) {
     let area = cart.ram().len();
     for n in 0..area {
         cart.write(0x4000, (n / 0x2000 % 16) as u8).unwrap();
-        cart.write((0xA000 + n % 0x2000) as u16, build::mixed(n % 0x800000 + 0x800000))
-            .unwrap();
+        cart.write((0xA000 + n % 0x2000) as u16, build::mixed(n % 0x800000 + 0x800000)).unwrap();
     }
     number(out, 'F', area as u64);
 }
@@ -47,9 +35,7 @@ pub fn step<B: Bus>(out: &mut String, cart: &mut B, code: u32) {
     let byte = (code % 256) as u8;
     let answer = match (code / 0x1000000) as u8 {
         b'R' => cart.read(addr).map(|b| writeln!(out, "R {:04X} {:02X}", addr, b).unwrap()),
-        b'W' => cart
-            .write(addr, byte)
-            .map(|()| writeln!(out, "W {:04X} {:02X}", addr, byte).unwrap()),
+        b'W' => cart.write(addr, byte).map(|()| writeln!(out, "W {:04X} {:02X}", addr, byte).unwrap()),
         b'w' => cart.write(addr, byte),
         b'C' => {
             let n = (code % 0x1000000).into();
@@ -78,11 +64,6 @@ pub fn compare(out: &str, program: &str) -> usize {
     for (i, (ours, theirs)) in out.lines().zip(expected.lines()).enumerate() {
         assert_eq!(ours, theirs, "line {} of {}", i + 1, path);
     }
-    assert_eq!(
-        out.lines().count(),
-        expected.lines().count(),
-        "the count of lines of {}",
-        path
-    );
+    assert_eq!(out.lines().count(), expected.lines().count(), "the count of lines of {}", path);
     out.lines().count()
 }

@@ -53,11 +53,7 @@ pub fn byte(answer: u32) -> Result<u8, u32> {
 
 impl Bus for Lent {
     fn mount(image: &[u8], area: usize, wall: u64) -> Result<Self, u32> {
-        let mut lent = Lent {
-            state: [0xEE; 64],
-            image: image.to_vec(),
-            ram: vec![0xEE; area],
-        };
+        let mut lent = Lent { state: [0xEE; 64], image: image.to_vec(), ram: vec![0xEE; area] };
         done(sys::mount(&mut lent.state, image, &mut lent.ram, wall))?;
         Ok(lent)
     }

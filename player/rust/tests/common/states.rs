@@ -79,11 +79,7 @@ pub fn shape(draw: &mut Draw, most: u16) -> Shape {
         2 => 64,
         k => 2 << draw.below(u64::from(MOST[k as usize].min(most).trailing_zeros())),
     };
-    let shortest = if banks == 2 {
-        0x150
-    } else {
-        (banks as usize - 1) * 0x4000 + 1
-    };
+    let shortest = if banks == 2 { 0x150 } else { (banks as usize - 1) * 0x4000 + 1 };
     let whole = banks as usize * 0x4000;
     let length = match draw.below(3) {
         0 => whole,
@@ -92,13 +88,7 @@ pub fn shape(draw: &mut Draw, most: u16) -> Shape {
     };
     let sizes = if kind == 0 { &RAM_SIZES[..3] } else { &RAM_SIZES[..] };
     let size = draw.of(sizes) as usize;
-    Shape {
-        kind,
-        banks,
-        length,
-        size,
-        area: size + if kind == 3 { 512 } else { 0 },
-    }
+    Shape { kind, banks, length, size, area: size + if kind == 3 { 512 } else { 0 } }
 }
 
 /// The bytes that a kind does not use.
@@ -111,14 +101,7 @@ fn unused(kind: u8) -> Vec<usize> {
     };
     let clock = if kind == 5 { 0..0 } else { 32..59 };
     let selection = if kind == 5 { None } else { Some(7) };
-    registers
-        .iter()
-        .copied()
-        .chain(selection)
-        .chain(clock)
-        .chain(10..16)
-        .chain(59..64)
-        .collect()
+    registers.iter().copied().chain(selection).chain(clock).chain(10..16).chain(59..64).collect()
 }
 
 /// The same state as the library writes it: zero in what is not used.

@@ -1,0 +1,3 @@
+//! The original's cartridge module, as it stands.
+#![allow(dead_code)]
+pub mod cartridge;
