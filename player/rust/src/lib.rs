@@ -245,18 +245,28 @@ impl Cartridge {
     // The image counts as padded with zeros.
     #[inline]
     fn rom_byte(&self, place: usize) -> u8 {
-        self.image.get(place).copied().unwrap_or(0)
+        if place < self.image.len() {
+            self.image[place]
+        } else {
+            0
+        }
     }
 
     #[inline]
     fn ram_byte(&self, addr: u16) -> u8 {
-        self.ram.get(self.windows.place(addr)).copied().unwrap_or(0xFF)
+        let place = self.windows.place(addr);
+        if place < self.ram.len() {
+            self.ram[place]
+        } else {
+            0xFF
+        }
     }
 
     #[inline]
     fn put(&mut self, addr: u16, byte: u8) {
-        if let Some(cell) = self.ram.get_mut(self.windows.place(addr)) {
-            *cell = byte;
+        let place = self.windows.place(addr);
+        if place < self.ram.len() {
+            self.ram[place] = byte;
         }
     }
 

@@ -108,7 +108,7 @@ fn the_bus_takes_the_mounted_image_alone() {
         let whole = Guarded::new(0x10000 + MORE);
         let mut lent = whole.clone();
         let ram = vec![0; case.area];
-        for n in (0..=case.image.len() + MORE).filter(|n| n % 7 == 0 || n.abs_diff(case.image.len()) < 0x40 || *n < 0x200) {
+        for n in 0..=case.image.len() + MORE {
             for addr in [0x0000, 0x3FFF, 0x4000, 0x7FFF, 0xA000] {
                 let read = sys::read(&case.state, lent.part(n), &ram, addr);
                 assert_eq!(read >= sys::REFUSED, n != case.image.len());
