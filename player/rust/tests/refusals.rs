@@ -154,6 +154,26 @@ fn unchanged_at(cart: &mut Cartridge, addr: u16) {
 }
 
 #[test]
+fn accesses_give_the_first_of_13_to_16() {
+    let (image, ram, state) = mounted(0x10, 2).into_parts();
+    let mut none = state;
+    none[45] = 64; // a second that no clock has
+    let read = |state, image: &[u8], ram: &[u8], addr| sys::read(state, image, ram, addr) - sys::REFUSED;
+    assert_eq!(read(&none, &image[1..], &ram[1..], 0xC000), 13);
+    assert_eq!(read(&state, &image[1..], &ram, 0xC000), 14);
+    assert_eq!(read(&state, &image, &ram[1..], 0xC000), 14);
+    assert_eq!(read(&state, &image, &ram, 0xC000), 15);
+    let write = |mut state, mut ram: Vec<u8>, addr| sys::write(&mut state, &mut ram, addr, 0x0F);
+    assert_eq!(write(none, ram[1..].to_vec(), 0x4000), 13);
+    assert_eq!(write(state, ram[1..].to_vec(), 0x4000), 14);
+    assert_eq!(write(state, ram[1..].to_vec(), 0x8000), 14);
+    assert_eq!(write(state, ram.clone(), 0x8000), 15);
+    assert_eq!(write(state, ram, 0x4000), 16);
+    none[32..40].fill(0xFF);
+    assert_eq!(sys::advance(&mut none, u64::MAX), 13);
+}
+
+#[test]
 fn time_17() {
     let mut cart = Cartridge::mount(image(0x8000, 0x10, 0, 2), u64::MAX).unwrap();
     unchanged(&mut cart, |c| c.advance(2_097_152).unwrap_err(), Refusal::Late);
