@@ -33,6 +33,16 @@ fn windows_of(state: &State) -> sys::Windows {
     windows
 }
 
+// What the selected clock register reads: of the frozen copy while it is latched, and else of the running clock.
+fn clock_register(state: &State) -> u32 {
+    let at = if state[44] == 1 { 52 } else { 45 };
+    let byte = match state[7] {
+        4 => state[at + 6] << 7 | state[at + 5] << 6 | state[at + 4],
+        register => state[at + register as usize],
+    };
+    byte.into()
+}
+
 // Reads: through the state, through windows, and by a cartridge. Whether the windows had to pass it on.
 fn read_agrees(cart: &Cartridge, windows: &sys::Windows, addr: u16) -> bool {
     let expected = sys::read(cart.state(), cart.image(), cart.ram(), addr);
@@ -41,6 +51,7 @@ fn read_agrees(cart: &Cartridge, windows: &sys::Windows, addr: u16) -> bool {
     if seen == sys::ASK {
         assert_eq!(windows[4], 3);
         assert!((0xA000..0xC000).contains(&addr));
+        assert_eq!(expected, clock_register(cart.state()));
         return true;
     }
     assert_eq!(seen, expected, "{:?} {:04X}", windows, addr);
@@ -94,6 +105,20 @@ fn windows_show_what_the_state_shows() {
     }
     println!("kinds {:?}, ways of mapping {:?}, {} reads passed on", kinds, hows, passed_on);
     assert!(kinds.iter().all(|n| *n > 20) && hows.iter().all(|n| *n > 15) && passed_on > 100);
+}
+
+#[test]
+fn a_state_is_written_as_it_was_read() {
+    let mut draw = Draw::new(31337);
+    for _ in 0..4000 {
+        let shape = shape(&mut draw, 512);
+        let mut state = states::state(&mut draw, &shape);
+        let time = draw.next() << draw.below(2);
+        states::put(&mut state, 32, 8, time);
+        let mut next = state;
+        assert_eq!(sys::advance(&mut next, 0), 0);
+        assert_eq!(next, states::canonical(state));
+    }
 }
 
 #[test]
