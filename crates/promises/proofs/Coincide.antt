@@ -110,7 +110,7 @@ write-area-coincides c ram addr byte = any-two (bus.areaAfter c ram addr byte)
 pub advance-coincides : (c : Cartridge) (n : ℕ) → Coincide (advance.advanceOf c n)
 advance-coincides c n = any-two (advance.advanceOf c n)
 
--- `save_file::save`: the answer, and the room; `save_file::load`: the answer, and the area
+-- `save_file::save`: the answer, and the room; `save_file::load`: the answer, and the area; `save_file::ask_room`
 pub save-coincides : (c : Cartridge) (ram : List ℕ) (room wall : ℕ) → Coincide (save.saveOf c ram room wall)
 save-coincides c ram room wall = any-two (save.saveOf c ram room wall)
 
@@ -122,6 +122,9 @@ load-coincides c area bytes wall = any-two (load.loadOf c area bytes wall)
 
 pub load-area-coincides : (c : Cartridge) (ram bytes : List ℕ) (wall : ℕ) → Coincide (load.areaAfter c ram bytes wall)
 load-area-coincides c ram bytes wall = any-two (load.areaAfter c ram bytes wall)
+
+pub ask-room-coincides : (c : Cartridge) → Coincide (save.roomFor c)
+ask-room-coincides c = any-two (save.roomFor c)
 
 -- `Clock::new`, `advance` and `tick`, `read`, `write`, `latch`; `Registers::forward`
 pub clock-new-coincides : (wall : ℕ) → Coincide (clock.startAt wall)

@@ -8,7 +8,7 @@ use mathlib.Core.Bool.{true, false}
 use mathlib.Core.List.{List, [], _∷_}
 use mathlib.Core.Logic.{_⊎_, inl, inr}
 use mathlib.Core.Path.{_≡_, refl, sym, ap}
-use Prim.Native.Nat.{ℕ, _*_, _<_}
+use Prim.Native.Nat.{ℕ, _+_, _*_, _<_}
 use native.Mathlib.Omega.{arith}
 use lib.ListN.{length, drop}
 use borrow.Author.Tests.{eqb-true}
@@ -32,7 +32,7 @@ use Rattle.header.proofs.CheckLaws.{no-1}
 use Rattle.mapper.specs.Mappers as mapper
 use Rattle.window.specs.Window.{wayOf, Within}
 use Rattle.window.proofs.Laws.{way-within}
-use Rattle.battery.specs.Battery.{hasBlock}
+use Rattle.battery.specs.Battery.{clockIn, hasBlock, batterySize}
 use Rattle.cartridge.specs.Fit.{fitCart, areaOf}
 use Rattle.cartridge.specs.declared.Cartridge.{Cartridge}
 use Rattle.cartridge.proofs.Laws.{fit-banks, fit-padded}
@@ -50,9 +50,10 @@ use Rattle.bus.specs.Run as run
 use Rattle.bus.specs.declared.WriteAnswer.the-variants as write
 use Rattle.bus.specs.declared.Advanced.the-variants as advanced
 use Rattle.save_file.specs.Admit.{admitNoes}
-use Rattle.save_file.specs.Save.{bytesOf, saveNoes, saveOf, roomBy, roomAfter}
+use Rattle.save_file.specs.Save.{bytesOf, saveNoes, saveOf, roomBy, roomAfter, roomFor}
 use Rattle.save_file.specs.Load as load
 use Rattle.save_file.specs.Load.{loadNoes, acceptedOf, loadOf}
+use Rattle.save_file.proofs.Laws.{room-length}
 use Rattle.save_file.specs.declared.Saved.the-variants as saved
 use Rattle.save_file.specs.declared.Loaded.the-variants as loaded
 use Rattle.runs.specs.Calls.{Octets, Ready, AllNeither}
@@ -71,6 +72,7 @@ use Rattle.promises.specs.PublicCalls.{
   advancing,
   ticking,
   saving,
+  sizing,
   loading,
   waking,
 }
@@ -138,6 +140,11 @@ save-refuses c ram room wall =
     by-first (saving c ram room wall) refl (λ v w e. cc) (λ w e. cc) refl
     (λ w e. ap (roomBy (bytesOf (c .mapper) ram wall) room) e)
 
+-- `save_file::ask_room`, of any cartridge: of "Out", what does not hang on what is lent.
+pub ask-room-refuses : (c : Cartridge) → Refusing (13 ∷ 18 ∷ []) (sizing c)
+unfolding roomFor
+ask-room-refuses c = by-first (sizing c) refl (λ v w e. cc) (λ w e. cc) refl (λ w e. refl)
+
 -- `save_file::load`, of any lent area, any save bytes and any wall time: "Save file in: 13, 14 (RAM), 18, 19, 20, 17", the last two
 -- where there is a block to read.
 pub load-refuses : (c : Cartridge) (ram bytes : List ℕ) (wall : ℕ)
@@ -161,6 +168,11 @@ too-long-is-1 image h = sym (no-1 image h)
 pub asked-area-mounts : (image ram : List ℕ) (wall : ℕ) (d : Facts) → checkOf image ≡ checked.Accept d
     → mount.areaFor image ≡ area.Bytes (length ram) → mountOf image ram wall ≡ mounted.To (cartOf d (length image) wall)
 asked-area-mounts = laws.asked-mounts
+
+-- A room of the length that `save_file::ask_room` asks for holds the save.
+pub asked-room-saves : (c : Cartridge) (ram : List ℕ) (wall : ℕ) → length ram ≡ areaOf c
+    → areaOf c + batterySize (clockIn (c .mapper)) ≡ length (bytesOf (c .mapper) ram wall)
+asked-room-saves = room-length
 
 -- 2. "a refused call changes neither the cartridge nor any lent byte": of an access, the cartridge and its area together.
 pub refused-changes-nothing : (rom : List ℕ) (m : Machine) (a : Access) (k : ℕ) → stepOf rom m a .answer ≡ run.refused k

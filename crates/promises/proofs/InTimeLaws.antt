@@ -18,6 +18,9 @@ use Rattle.clock.specs.declared.Written.the-variants as written
 use Rattle.clock_block.specs.Waking.{wokenOf}
 use Rattle.clock_block.specs.Waking as block
 use Rattle.clock_block.specs.declared.Block.{Block}
+use Rattle.types.specs.declared.Kind.{Kind}
+use Rattle.types.specs.declared.Kind.the-variants as kind
+use Rattle.mount.specs.Mount as mount
 use Rattle.mbc3.specs.Registers as mbc3
 use Rattle.mbc3.specs.declared.Mbc3 as declared
 use Rattle.timer.specs.Advance as timer
@@ -34,6 +37,16 @@ use Rattle.states.specs.Widths.{InTime}
 -- of an MBC3: where there is a timer, its time has 64 bits
 abbrev Timed : declared.Mbc3 → Type 0
 Timed m = m .timer ≡ true → m .clock .time < 2 ^ 64
+
+pub start-in-time : (k : Kind) (multicart : Bool) (wall : ℕ) → wall < 2 ^ 64 → InTime (mount.startOf k multicart wall)
+start-in-time kind.NoMapper multicart wall h = tt
+start-in-time kind.Mbc1 multicart wall h = tt
+start-in-time kind.Mbc2 multicart wall h = tt
+start-in-time (kind.Mbc3 timer) multicart wall h = λ e. h
+start-in-time (kind.Mbc5 rumble) multicart wall h = tt
+start-in-time kind.Mmm01 multicart wall h = tt
+start-in-time kind.Mbc6 multicart wall h = tt
+start-in-time kind.Mbc7 multicart wall h = tt
 
 pub plain-in-time : (m : Mapper) → InTime m → InTime (plainMapper m)
 plain-in-time (NoMapper m) h = h

@@ -6,3 +6,5 @@ pub mod Demand3
 pub mod Save
 pub mod Bench
 pub mod Coincide
+pub mod Boundary
+pub mod BoundaryCoincide

@@ -1,3 +1,4 @@
 pub mod Refusing
 pub mod PublicCalls
 pub mod Agrees
+pub mod Boundary

@@ -1,7 +1,7 @@
 -- The public calls that refuse, each on any input: its tests, its answers, and the bytes that it is lent to write.
 use mathlib.Core.Bool.{false, not}
 use mathlib.Core.List.{List, [], _∷_, _++_}
-use Prim.Native.Nat.{ℕ}
+use Prim.Native.Nat.{ℕ, _+_}
 use lib.Dec.{eqb}
 use lib.ListN.{length, drop}
 use Rattle.facts.specs.Choice.{pick}
@@ -26,6 +26,7 @@ use Rattle.header.specs.declared.Checked.the-variants as checked
 use Rattle.header.specs.declared.Facts.{Facts}
 use Rattle.header.specs.declared.HeaderRefusal.{HeaderRefusal}
 use Rattle.mapper.specs.Mappers as mapper
+use Rattle.battery.specs.Battery.{clockIn, batterySize}
 use Rattle.cartridge.specs.Fit.{areaOf}
 use Rattle.cartridge.specs.With.{withMapper}
 use Rattle.cartridge.specs.declared.Cartridge.{Cartridge}
@@ -52,6 +53,8 @@ use Rattle.save_file.specs.Admit as admit
 use Rattle.save_file.specs.Save as save
 use Rattle.save_file.specs.Load as load
 use Rattle.save_file.specs.declared.SaveRefusal.{SaveRefusal}
+use Rattle.save_file.specs.declared.Room.{Room}
+use Rattle.save_file.specs.declared.Room.the-variants as room
 use Rattle.save_file.specs.declared.Saved.{Saved}
 use Rattle.save_file.specs.declared.Saved.the-variants as saved
 use Rattle.save_file.specs.declared.Loaded.{Loaded}
@@ -178,6 +181,19 @@ saving c ram room wall =
       answer = save.saveOf c ram (length room) wall;
       before = room;
       after = save.roomAfter c ram room wall;
+    }
+
+-- `save_file::ask_room`
+abbrev pub sizing : Cartridge → Call SaveRefusal Room
+sizing c =
+    record {
+      tests = save.askNoes c;
+      numberOf = admit.numberOf;
+      refuse = room.Refuse;
+      accepted = room.Bytes (areaOf c + batterySize (clockIn (c .mapper)));
+      answer = save.roomFor c;
+      before = [];
+      after = [];
     }
 
 -- `save_file::load`, which is lent the RAM area to write

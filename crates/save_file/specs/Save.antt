@@ -43,8 +43,9 @@ saveOf c ram room wall = firstNo Refuse (saveNoes c ram room wall) (Wrote (lengt
 unfoldable pub roomAfter : Cartridge → List ℕ → List ℕ → ℕ → List ℕ
 roomAfter c ram room wall = roomBy (bytesOf (c .mapper) ram wall) room (saveOf c ram (length room) wall)
 
--- the room that a save asks for: "Out: 13, .. 18", and then the RAM area and what the battery keeps
+-- the room that a save asks for: "Out: 13, .. 18" without what is lent, and then the RAM area and what the battery keeps
+abbrev pub askNoes : Cartridge → List (No SaveRefusal)
+askNoes c = no (not (fitCart c)) Unfit ∷ no (not (c .battery)) NoBattery ∷ []
+
 unfoldable pub roomFor : Cartridge → Room
-roomFor c =
-    firstNo room.Refuse (no (not (fitCart c)) Unfit ∷ no (not (c .battery)) NoBattery ∷ [])
-    (room.Bytes (areaOf c + batterySize (clockIn (c .mapper))))
+roomFor c = firstNo room.Refuse (askNoes c) (room.Bytes (areaOf c + batterySize (clockIn (c .mapper))))

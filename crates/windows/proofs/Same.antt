@@ -8,10 +8,10 @@ use Prim.Native.Nat.{ℕ, _+_, _%_, _<_, _≤_}
 use native.Mathlib.Omega.{arith}
 use lib.Dec.{ltb, leb}
 use lib.ListN.{length}
-use borrow.Author.Tests.{ltb-true, ltb-false, lt-ltb, le-ltb, lt-leb, eq-eqb}
+use borrow.Author.Tests.{ltb-true, ltb-false, lt-ltb, le-ltb, leb-true, lt-leb, eq-eqb}
 use Rattle.facts.specs.Choice.{pick, both}
 use Rattle.facts.specs.Banking.{placeOf}
-use Rattle.facts.proofs.ChoiceLaws.{both-true, both-false, pick-has}
+use Rattle.facts.proofs.ChoiceLaws.{both-true, both-false, both-parts, pick-has}
 use Rattle.facts.specs.Refusals.{no, firstNo}
 use Rattle.banking.specs.Banks.{romPlace}
 use Rattle.banking.specs.declared.RamAt.{RamAt}
@@ -39,6 +39,7 @@ use Rattle.cartridge.specs.declared.Cartridge.{Cartridge}
 use Rattle.access.specs.Verdict.{inRom, inRam, verdictOf}
 use Rattle.access.specs.declared.Verdict.{Verdict}
 use Rattle.access.specs.declared.Verdict.the-variants as verdict
+use Rattle.access.specs.declared.BusRefusal.{BusRefusal}
 use Rattle.access.specs.declared.BusRefusal.the-variants.{Unfit, WrongLength, BadAddress, BadSelection}
 use Rattle.access.proofs.Laws.{by-tests, rom-window, above-rom, ram-window, below-ram, above-ram}
 use Rattle.bus.specs.Bus as bus
@@ -154,6 +155,23 @@ module _ (c : Cartridge) (rom ram : List ℕ) (addr : ℕ) (l : Lent c rom ram) 
       go false false false true p q r s = sees-ram (ltb-false addr 0xA000 r) (ltb-true addr 0xC000 s)
       go false false false false p q r s =
           sees-outside (ltb-false addr 0x8000 q) (above-ram addr (ltb-false addr 0xC000 s))
+
+  -- what is not a byte is refused with 15
+  pub only-15 : (w : BusRefusal) → bus.readOf c rom ram addr ≡ answer.Refuse w → w ≡ BadAddress
+  only-15 w refused = go (ltb addr 0x8000) (inRam addr) refl refl
+    where
+      no-byte : {b : ℕ} → bus.readOf c rom ram addr ≡ answer.Byte b → w ≡ BadAddress
+      no-byte e = let p = sym e ∙ refused in let z : _≡_ {A = ℕ} 0 1 = cc in absurd (omega arith)
+
+      go : (b d : Bool) → ltb addr 0x8000 ≡ b → inRam addr ≡ d → w ≡ BadAddress
+      go true d p q = no-byte (bus-rom c rom ram addr l (ltb-true addr 0x8000 p))
+      go false true p q =
+          let within = both-parts (leb 0xA000 addr) (leb addr 0xBFFF) q in
+          let above = leb-true 0xA000 addr (within .0) in
+          let below = leb-true addr 0xBFFF (within .1) in
+          no-byte (bus-ram c rom ram addr l above (omega arith))
+      go false false p q =
+          let r = sym (bus-outside c rom ram addr l (ltb-false addr 0x8000 p) q) ∙ refused in cc
 
 -- ---- "writing through the RAM window [does] what the state's write does": the same area; what is not asked leaves the state as it was
 
