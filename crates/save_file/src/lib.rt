@@ -84,11 +84,11 @@ pub fn ask_room(cart: Cartridge) -> Room
     if !cart.fit() {
         return Room::Refuse(SaveRefusal::Unfit);
     }
-    if cart.battery {
-        let mapper = cart.mapper;
-        return Room::Bytes(mapper.area(cart.size) + battery::save_battery_size(mapper));
+    if !cart.battery {
+        return Room::Refuse(SaveRefusal::NoBattery);
     }
-    Room::Refuse(SaveRefusal::NoBattery)
+    let mapper = cart.mapper;
+    Room::Bytes(mapper.area(cart.size) + battery::save_battery_size(mapper))
 }
 
 fn save_admitted(mapper: Mapper, ram: &[u8], room: &mut [u8], wall: u64) -> Saved

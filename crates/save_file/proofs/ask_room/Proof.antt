@@ -20,14 +20,20 @@ fit-requires c κs = search needs
 returns : tie.Need-returns
 returns c = room-tested (c .before .before .args .cart) (sym (not-true _ (c .if1 .taken)) ∙ c .before .fit .ensures) refl
 
+returns-2 : tie.Need-returns-2
+returns-2 c = let d = c .before .before in
+    room-tested (d .before .before .args .cart) (sym (not-false _ (d .if1 .left)) ∙ d .before .fit .ensures)
+    (sym (not-true _ (c .if2 .taken)))
+
 area-requires : tie.Need-area-requires
-area-requires c κs = fit-size (c .before .before .before .args .cart) (sym (c .before .before .fit .ensures) ∙ not-false _ (c .before .if1 .left))
+area-requires c κs = let d = c .before .before in
+    fit-size (d .before .before .args .cart) (sym (d .before .fit .ensures) ∙ not-false _ (d .if1 .left))
 
 save-battery-size-requires : tie.Need-save-battery-size-requires
 save-battery-size-requires c κs = search needs
 
-add-t8 : tie.Need-add-t8
-add-t8 c = let d = c .before .before .before in
+add-t9 : tie.Need-add-t9
+add-t9 c = let d = c .before .before .before .before in
     let a = d .before .before .args in
     omega (
       arith,
@@ -38,16 +44,13 @@ add-t8 c = let d = c .before .before .before in
       fit-size (a .cart) (sym (d .before .fit .ensures) ∙ not-false _ (d .if1 .left)),
     )
 
-returns-2 : tie.Need-returns-2
-returns-2 c = let d = c .before .before .before in
+returns-3 : tie.Need-returns-3
+returns-3 c = let d = c .before .before .before .before in
     let a = d .before .before .args in
     ap Bytes
     (ap (λ (n : ℕ). n + c .save-battery-size .result) (c .before .area .ensures)
     ∙ ap (λ (n : ℕ). areaOf (a .cart .mapper) (a .cart .size) + n) (c .save-battery-size .ensures))
-    ∙ room-tested (a .cart) (sym (not-false _ (d .if1 .left)) ∙ d .before .fit .ensures) (sym (c .before .before .if2 .taken))
-
-returns-3 : tie.Need-returns-3
-returns-3 c = room-tested (c .before .before .before .args .cart) (sym (not-false _ (c .before .if1 .left)) ∙ c .before .before .fit .ensures) (sym (c .if2 .left))
+    ∙ room-tested (a .cart) (sym (not-false _ (d .if1 .left)) ∙ d .before .fit .ensures) (sym (not-false _ (c .before .before .if2 .left)))
 
 pub ask-room-spec : {M : Type 1} → statement M
 ask-room-spec =
@@ -55,8 +58,8 @@ ask-room-spec =
     (tie.spec
     fit-requires
     returns
+    returns-2
     area-requires
     save-battery-size-requires
-    add-t8
-    returns-2
+    add-t9
     returns-3)
