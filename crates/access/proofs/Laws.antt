@@ -12,7 +12,7 @@ use Rattle.facts.proofs.ChoiceLaws.{both-true, both-false, not-false}
 use Rattle.facts.proofs.RefusalLaws.{none-if, none-at}
 use Rattle.cartridge.specs.Fit.{fitCart}
 use Rattle.cartridge.specs.declared.Cartridge.{Cartridge}
-use Rattle.access.specs.Verdict.{inRom, inRam, noes, verdictOf}
+use Rattle.access.specs.Verdict.{inRom, inRam, noesBy, verdictBy, noes, verdictOf}
 use Rattle.access.specs.declared.BusRefusal.the-variants.{Unfit, WrongLength, BadAddress, BadSelection}
 use Rattle.access.specs.declared.Verdict.{Verdict}
 use Rattle.access.specs.declared.Verdict.the-variants.{Rom, Ram, Refuse}
@@ -36,6 +36,14 @@ above-ram addr h = ap (both (leb 0xA000 addr)) (lt-leb addr 0xBFFF (omega arith)
 
 -- ---- the verdict
 
+module _ (fit lent : Bool) (addr : ℕ) (bad : Bool) where
+  pub decided : {f l i r b : Bool} → fit ≡ f → lent ≡ l → inRom addr ≡ i → inRam addr ≡ r → bad ≡ b
+      → firstNo Refuse
+      (no (not f) Unfit ∷ no (not l) WrongLength ∷ no (not (either i r)) BadAddress ∷ no b BadSelection ∷ [])
+      (pick i Rom Ram)
+      ≡ verdictBy addr (noesBy fit lent addr bad)
+  decided p q s t u = rw (p, q, s, t, u)
+
 module _ (c : Cartridge) (lent : Bool) (addr : ℕ) (bad : Bool) where
   pub by-tests : {f l i r b : Bool} → fitCart c ≡ f → lent ≡ l → inRom addr ≡ i → inRam addr ≡ r → bad ≡ b
       → firstNo Refuse
@@ -43,7 +51,7 @@ module _ (c : Cartridge) (lent : Bool) (addr : ℕ) (bad : Bool) where
       (pick i Rom Ram)
       ≡ verdictOf c lent addr bad
   unfolding verdictOf noes
-  by-tests p q s t u = rw (p, q, s, t, u)
+  by-tests = decided (fitCart c) lent addr bad
 
   -- an access that is not refused
   abbrev taken : Verdict → Bool

@@ -25,16 +25,23 @@ inRom addr = leb addr 0x7FFF
 abbrev pub inRam : ℕ → Bool
 inRam addr = both (leb 0xA000 addr) (leb addr 0xBFFF)
 
--- "Bus: 13, 14, 15, 16", of a cartridge, whether what is lent has the mounted lengths, an address, and whether the access
--- selects what there is not
-unfoldable pub noes : Cartridge → Bool → ℕ → Bool → List (No BusRefusal)
-noes c lent addr bad =
-    no (not (fitCart c)) Unfit
+-- "Bus: 13, 14, 15, 16", by whether the state is fit, whether what is lent has the mounted lengths, an address, and whether the
+-- access selects what there is not
+abbrev pub noesBy : Bool → Bool → ℕ → Bool → List (No BusRefusal)
+noesBy fit lent addr bad =
+    no (not fit) Unfit
     ∷ no (not lent) WrongLength
     ∷ no (not (either (inRom addr) (inRam addr))) BadAddress
     ∷ no bad BadSelection
     ∷ []
 
 -- the window that an accepted access is to
+abbrev pub verdictBy : ℕ → List (No BusRefusal) → Verdict
+verdictBy addr tests = firstNo Refuse tests (pick (inRom addr) Rom Ram)
+
+-- the same of a cartridge
+unfoldable pub noes : Cartridge → Bool → ℕ → Bool → List (No BusRefusal)
+noes c lent addr bad = noesBy (fitCart c) lent addr bad
+
 unfoldable pub verdictOf : Cartridge → Bool → ℕ → Bool → Verdict
-verdictOf c lent addr bad = firstNo Refuse (noes c lent addr bad) (pick (inRom addr) Rom Ram)
+verdictOf c lent addr bad = verdictBy addr (noes c lent addr bad)

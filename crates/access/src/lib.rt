@@ -1,7 +1,7 @@
 // Whether an access to a mounted cartridge can be made, and to which window: the one place where the order of the numbers 13 to 16
 // stands, for reads and writes alike.
 ghost use mathlib.Core.Path.{_≡_};
-ghost use Rattle.access.specs.Verdict.{numberOf, verdictOf};
+ghost use Rattle.access.specs.Verdict.{numberOf, noesBy, verdictBy, verdictOf};
 use cartridge::Cartridge;
 
 // Why an access is not made, in the order of the tests.
@@ -32,11 +32,11 @@ impl BusRefusal {
     }
 }
 
-// Asked are whether what is lent has the mounted lengths, and whether the access selects what there is not.
-pub fn judge(cart: Cartridge, lent: bool, addr: u16, bad: bool) -> Verdict
-    ensures { λ r. ⌜ r ≡ verdictOf cart lent addr bad ⌝ }
+// By whether the state is fit, whether what is lent has the mounted lengths, and whether the access selects what there is not.
+pub fn decide(fit: bool, lent: bool, addr: u16, bad: bool) -> Verdict
+    ensures { λ r. ⌜ r ≡ verdictBy addr (noesBy fit lent addr bad) ⌝ }
 {
-    if !cart.fit() {
+    if !fit {
         return Verdict::Refuse(BusRefusal::Unfit);
     }
     if !lent {
@@ -57,4 +57,11 @@ pub fn judge(cart: Cartridge, lent: bool, addr: u16, bad: bool) -> Verdict
         }
         _ => Verdict::Refuse(BusRefusal::BadAddress),
     }
+}
+
+// The same of a cartridge.
+pub fn judge(cart: Cartridge, lent: bool, addr: u16, bad: bool) -> Verdict
+    ensures { λ r. ⌜ r ≡ verdictOf cart lent addr bad ⌝ }
+{
+    decide(cart.fit(), lent, addr, bad)
 }

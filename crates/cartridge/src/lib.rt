@@ -20,7 +20,7 @@ pub struct Cartridge {
     pub mapper: Mapper,
 }
 
-fn is_bank_count(banks: u16) -> bool
+pub fn is_bank_count(banks: u16) -> bool
     ensures { λ r. ⌜ r ≡ oneOf banks bankCounts ⌝ }
 {
     match banks {
@@ -29,7 +29,7 @@ fn is_bank_count(banks: u16) -> bool
     }
 }
 
-fn is_ram_size(size: usize) -> bool
+pub fn is_ram_size(size: usize) -> bool
     ensures { λ r. ⌜ r ≡ oneOf size ramSizes ⌝ }
 {
     match size {
@@ -39,7 +39,7 @@ fn is_ram_size(size: usize) -> bool
 }
 
 // Whether an image of this length, padded, is this many banks. No sum can wrap.
-fn fills(length: usize, banks: u16) -> bool
+pub fn fills(length: usize, banks: u16) -> bool
     ensures { λ r. ⌜ r ≡ eqb (paddedLength length) (banks * 0x4000) ⌝ }
 {
     if length <= 0x8000 {

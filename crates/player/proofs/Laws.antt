@@ -19,7 +19,7 @@ use Rattle.cartridge.specs.declared.Cartridge.{Cartridge}
 use Rattle.states.specs.Reading.{decodeOf}
 use Rattle.states.specs.declared.Decoded.{Decoded}
 use Rattle.states.specs.declared.Decoded.the-variants.{To, NoState}
-use Rattle.player.specs.OnState.{onState}
+use Rattle.states.specs.OnState.{onState}
 use Rattle.player.specs.Header.{Small}
 
 -- ---- the state
@@ -30,6 +30,11 @@ module _ {A : Type 0} (f : Cartridge → A) (a : A) (s : List ℕ) {d : Decoded}
 
   pub on-none : d ≡ NoState → a ≡ onState f a (decodeOf s)
   on-none g = ap (onState f a) (sym g ∙ e)
+
+-- an answer as a number, by the state
+pub on-number : {A B : Type 0} (g : A → B) (f : Cartridge → A) (a : A) (d : Decoded) → g (onState f a d) ≡ onState (λ c. g (f c)) (g a) d
+on-number g f a (To c) = refl
+on-number g f a NoState = refl
 
 -- ---- the header
 

@@ -16,7 +16,7 @@ use Rattle.bus.specs.declared.Advanced.{Advanced}
 use Rattle.bus.specs.declared.Advanced.the-variants as advanced
 use Rattle.states.specs.Layout.{encodeOf}
 use Rattle.states.specs.Reading.{decodeOf}
-use Rattle.player.specs.OnState.{onState}
+use Rattle.states.specs.OnState.{onState}
 
 -- the number of a call whose state is none
 abbrev pub noState : ℕ

@@ -1,4 +1,3 @@
-pub mod OnState
 pub mod Header
 pub mod Bus
 pub mod Save

@@ -13,7 +13,7 @@ use Rattle.save_file.specs.declared.Loaded.{Loaded}
 use Rattle.save_file.specs.declared.Loaded.the-variants as loaded
 use Rattle.states.specs.Layout.{encodeOf}
 use Rattle.states.specs.Reading.{decodeOf}
-use Rattle.player.specs.OnState.{onState}
+use Rattle.states.specs.OnState.{onState}
 use Rattle.player.specs.Bus.{noState}
 
 -- ---- the room that a save asks for

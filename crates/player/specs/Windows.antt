@@ -12,7 +12,7 @@ use Rattle.windows.specs.declared.Seen.{Seen}
 use Rattle.windows.specs.declared.Seen.the-variants as seen
 use Rattle.windows.specs.declared.Put.{Put}
 use Rattle.windows.specs.declared.Put.the-variants as put
-use Rattle.player.specs.OnState.{onState}
+use Rattle.states.specs.OnState.{onState}
 use Rattle.player.specs.Bus.{noState, refused}
 
 -- the places that 0x0000, 0x4000 and 0xA000 show, the mask, how, and a zero

@@ -165,10 +165,7 @@ fn read_number(answer: ReadAnswer) -> u32
 pub extern "C" fn imf_read(state: &[u8; 64], image: &[u8], ram: &[u8], addr: u16) -> u32
     ensures { λ r. ⌜ r ≡ readOf (now (state .entry)) (now (image .entry)) (now (ram .entry)) addr ⌝ }
 {
-    match states::decode(state) {
-        Decoded::To(cart) => read_number(bus::read(cart, image, ram, addr)),
-        Decoded::NoState => REFUSED + NO_STATE,
-    }
+    read_number(flat::read(state, image, ram, addr))
 }
 
 fn take_written(state: &mut [u8; 64], answer: WriteAnswer) -> u32

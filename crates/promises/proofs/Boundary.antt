@@ -58,7 +58,7 @@ use Rattle.windows.proofs.Same.{
   windows-stay-in-ram-write,
   windows-stay-in-advance,
 }
-use Rattle.player.specs.OnState.{onState}
+use Rattle.states.specs.OnState.{onState}
 use Rattle.player.specs.Bus.{mountNumber, mountState, mountOf, stateMounted, readNumber, readOf, writeNumber, writeState, writeOf, stateWritten, areaWritten, advanceNumber, advanceState, advanceOf, stateAdvanced}
 use Rattle.player.specs.Save.{savedNumber, savedSize, saveOf, roomSaved, sizeSaved, loadedNumber, loadedState, loadedClock, loadOf, stateLoaded, areaLoaded, clockLoaded}
 use Rattle.player.specs.Windows.{windowsIn, seenNumber, putNumber, askedWindows, windowsAfter, windowRead, windowWrite, areaThrough}

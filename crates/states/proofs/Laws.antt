@@ -107,8 +107,8 @@ pub mbc3-of : {t a a′ b b′ : Bool} {x x′ y y′ z z′ : ℕ} {k k′ : Cl
 mbc3-of p q r e f g = cc
 
 pub mbc3-to : (s : List ℕ) (t : Bool) {x : mbc3-state.Mbc3} {n n′ : ℕ} {k k′ : Clock} → x ≡ mbc3In s t n k → n ≡ n′ → k ≡ k′
-    → Mbc3 x ≡ Mbc3 (mbc3In s t n′ k′)
-mbc3-to s t p q r = ap Mbc3 (p ∙ mbc3-of refl refl refl refl q r)
+    → x ≡ mbc3In s t n′ k′
+mbc3-to s t p q r = p ∙ mbc3-of refl refl refl refl q r
 
 pub mbc5-of : {b b′ : Bool} {x x′ y y′ : ℕ} → b ≡ b′ → x ≡ x′ → y ≡ y′ → mbc5.mbc5 b x y ≡ mbc5.mbc5 b′ x′ y′
 mbc5-of p q r = cc

@@ -49,6 +49,13 @@ abbrev pub mbc3In : List ℕ → Bool → ℕ → Clock → mbc3-state.Mbc3
 mbc3In s timer register clock =
     mbc3.mbc3 timer (flagAt s 2) (fieldAt 1 s 4) (flagAt s 3) (fieldAt 1 s 6) register clock
 
+-- with no timer the clock and its selection are "not looked at"
+abbrev pub untimedIn : List ℕ → mbc3-state.Mbc3
+untimedIn s = mbc3In s false 0 (startAt 0)
+
+abbrev pub timedIn : List ℕ → mbc3-state.Mbc3
+timedIn s = mbc3In s true (fieldAt 1 s 7) (clockIn s)
+
 abbrev pub mbc5In : List ℕ → mbc5-state.Mbc5
 mbc5In s = mbc5.mbc5 (flagAt s 2) (fieldAt 2 s 4) (fieldAt 1 s 6)
 
@@ -62,15 +69,15 @@ cartIn s m =
       mapper = m;
     }
 
--- in the order of the kinds; with no timer the clock and its selection are "not looked at"
+-- in the order of the kinds
 abbrev pub mappersIn : List ℕ → List Mapper
 mappersIn s =
     NoMapper none.start
     ∷ Mbc1 (mbc1In s false)
     ∷ Mbc1 (mbc1In s true)
     ∷ Mbc2 (mbc2In s)
-    ∷ Mbc3 (mbc3In s false 0 (startAt 0))
-    ∷ Mbc3 (mbc3In s true (fieldAt 1 s 7) (clockIn s))
+    ∷ Mbc3 (untimedIn s)
+    ∷ Mbc3 (timedIn s)
     ∷ Mbc5 (mbc5In s)
     ∷ []
 

@@ -6,7 +6,7 @@ ghost use lib.ListN.{length};
 ghost use Rattle.mapper.specs.declared.Mapper.the-variants as by;
 ghost use Rattle.state_fields.specs.Fields.{stored, areFlags};
 ghost use Rattle.states.specs.Layout.{board, registers, mapper, kindOf, encodeOf};
-ghost use Rattle.states.specs.Reading.{flagsOf, mbc1In, mbc2In, mbc3In, mbc5In, cartIn, byKind, decodeOf};
+ghost use Rattle.states.specs.Reading.{flagsOf, mbc1In, mbc2In, mbc3In, untimedIn, timedIn, mbc5In, cartIn, byKind, decodeOf};
 ghost use Rattle.states.specs.declared.Decoded.the-variants.{To};
 use cartridge::Cartridge;
 use clock::Clock;
@@ -123,7 +123,7 @@ pub fn encode(cart: Cartridge, s: &mut [u8; 64])
 }
 
 // Whether every flag that this kind of cartridge uses is one.
-fn are_flags(s: &[u8], kind: u8) -> bool
+pub fn are_flags(s: &[u8], kind: u8) -> bool
     requires { ⌜ 64 ≤ length (now s) ⌝ }
     ensures { λ r. ⌜ r ≡ areFlags (now (s .entry)) (flagsOf kind) ⌝ }
 {
@@ -142,7 +142,7 @@ fn are_flags(s: &[u8], kind: u8) -> bool
     }
 }
 
-fn mbc1_in(s: &[u8], multicart: bool) -> Mbc1
+pub fn mbc1_in(s: &[u8], multicart: bool) -> Mbc1
     requires { ⌜ 64 ≤ length (now s) ⌝ }
     ensures { λ r. ⌜ r ≡ mbc1In (now (s .entry)) multicart ⌝ }
 {
@@ -155,7 +155,7 @@ fn mbc1_in(s: &[u8], multicart: bool) -> Mbc1
     }
 }
 
-fn mbc2_in(s: &[u8]) -> Mbc2
+pub fn mbc2_in(s: &[u8]) -> Mbc2
     requires { ⌜ 64 ≤ length (now s) ⌝ }
     ensures { λ r. ⌜ r ≡ mbc2In (now (s .entry)) ⌝ }
 {
@@ -181,7 +181,22 @@ fn mbc3_in(s: &[u8], timer: bool, register: u8, clock: Clock) -> Mbc3
     }
 }
 
-fn mbc5_in(s: &[u8]) -> Mbc5
+// Without a timer the clock and its selection are not looked at.
+pub fn untimed_in(s: &[u8]) -> Mbc3
+    requires { ⌜ 64 ≤ length (now s) ⌝ }
+    ensures { λ r. ⌜ r ≡ untimedIn (now (s .entry)) ⌝ }
+{
+    mbc3_in(s, false, 0, Clock::new(0))
+}
+
+pub fn timed_in(s: &[u8]) -> Mbc3
+    requires { ⌜ 64 ≤ length (now s) ⌝ }
+    ensures { λ r. ⌜ r ≡ timedIn (now (s .entry)) ⌝ }
+{
+    mbc3_in(s, true, bytes_le::read_u8(s, 7), clock_in(s))
+}
+
+pub fn mbc5_in(s: &[u8]) -> Mbc5
     requires { ⌜ 64 ≤ length (now s) ⌝ }
     ensures { λ r. ⌜ r ≡ mbc5In (now (s .entry)) ⌝ }
 {
@@ -214,11 +229,8 @@ fn by_kind(s: &[u8], kind: u8) -> Decoded
         1 => cart_in(s, Mapper::Mbc1(mbc1_in(s, false))),
         2 => cart_in(s, Mapper::Mbc1(mbc1_in(s, true))),
         3 => cart_in(s, Mapper::Mbc2(mbc2_in(s))),
-        4 => cart_in(s, Mapper::Mbc3(mbc3_in(s, false, 0, Clock::new(0)))),
-        5 => cart_in(
-            s,
-            Mapper::Mbc3(mbc3_in(s, true, bytes_le::read_u8(s, 7), clock_in(s))),
-        ),
+        4 => cart_in(s, Mapper::Mbc3(untimed_in(s))),
+        5 => cart_in(s, Mapper::Mbc3(timed_in(s))),
         6 => cart_in(s, Mapper::Mbc5(mbc5_in(s))),
         _ => Decoded::NoState,
     }

@@ -38,7 +38,7 @@ pub fn way_of(mapper: Mapper, size: usize, addr: u16) -> Way
     }
 }
 
-fn load(ram: &[u8], place: RamAt) -> u8
+pub fn load(ram: &[u8], place: RamAt) -> u8
     requires { ⌜ Inside place (length (now ram)) ⌝ }
     ensures { λ r. ⌜ r ≡ loaded (now (ram .entry)) place ⌝ }
 {

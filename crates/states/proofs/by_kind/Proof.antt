@@ -2,12 +2,11 @@
 use borrow.Author.Needs.{needs}
 use Rattle.states.proofs.by_kind.Statement.{statement}
 use Rattle.states.proofs.by_kind.Tie as tie
-use mathlib.Core.Bool.{true, false}
 use mathlib.Core.Path.{refl, ap}
 use denote.Ref.{now}
-use Rattle.mapper.specs.declared.Mapper.the-variants.{NoMapper, Mbc1, Mbc2, Mbc5}
+use Rattle.mapper.specs.declared.Mapper.the-variants.{NoMapper, Mbc1, Mbc2, Mbc3, Mbc5}
 use Rattle.states.specs.Reading.{byKind}
-use Rattle.states.proofs.Laws.{mbc3-to, kind-to, no-kind, past-last}
+use Rattle.states.proofs.Laws.{kind-to, no-kind, past-last}
 
 new-requires : tie.Need-new-requires
 new-requires c κs = search needs
@@ -33,23 +32,14 @@ mbc2-in-requires c κs = search needs
 cart-in-requires-4 : tie.Need-cart-in-requires-4
 cart-in-requires-4 c κs = search needs
 
-new-requires-2 : tie.Need-new-requires-2
-new-requires-2 c κs = search needs
-
-mbc3-in-requires : tie.Need-mbc3-in-requires
-mbc3-in-requires c κs = search needs
+untimed-in-requires : tie.Need-untimed-in-requires
+untimed-in-requires c κs = search needs
 
 cart-in-requires-5 : tie.Need-cart-in-requires-5
 cart-in-requires-5 c κs = search needs
 
-read-u8-requires : tie.Need-read-u8-requires
-read-u8-requires c κs = search needs
-
-clock-in-requires : tie.Need-clock-in-requires
-clock-in-requires c κs = search needs
-
-mbc3-in-requires-2 : tie.Need-mbc3-in-requires-2
-mbc3-in-requires-2 c κs = search needs
+timed-in-requires : tie.Need-timed-in-requires
+timed-in-requires c κs = search needs
 
 cart-in-requires-6 : tie.Need-cart-in-requires-6
 cart-in-requires-6 c κs = search needs
@@ -87,18 +77,14 @@ returns-4 c =
 returns-5 : tie.Need-returns-5
 unfolding byKind
 returns-5 c =
-    let s = now (c .before .before .before .before .before .args .s) in
-    kind-to s _ (c .before .before .before .match .keys5)
-    (mbc3-to s false (c .before .mbc3-in .ensures) refl (c .before .before .new2 .ensures)) (c .cart-in5 .ensures) refl
+    let s = now (c .before .before .before .before .args .s) in
+    kind-to s _ (c .before .before .match .keys5) (ap Mbc3 (c .before .untimed-in .ensures)) (c .cart-in5 .ensures) refl
 
 returns-6 : tie.Need-returns-6
 unfolding byKind
 returns-6 c =
-    let d = c .before .before in
-    let s = now (d .before .before .before .before .args .s) in
-    kind-to s _ (d .before .before .match .keys6)
-    (mbc3-to s true (c .before .mbc3-in2 .ensures) (d .before .read-u8 .ensures) (d .clock-in .ensures)) (c .cart-in6 .ensures)
-    refl
+    let s = now (c .before .before .before .before .args .s) in
+    kind-to s _ (c .before .before .match .keys6) (ap Mbc3 (c .before .timed-in .ensures)) (c .cart-in6 .ensures) refl
 
 returns-7 : tie.Need-returns-7
 unfolding byKind
@@ -124,12 +110,9 @@ by-kind-spec =
     cart-in-requires-3
     mbc2-in-requires
     cart-in-requires-4
-    new-requires-2
-    mbc3-in-requires
+    untimed-in-requires
     cart-in-requires-5
-    read-u8-requires
-    clock-in-requires
-    mbc3-in-requires-2
+    timed-in-requires
     cart-in-requires-6
     mbc5-in-requires
     cart-in-requires-7

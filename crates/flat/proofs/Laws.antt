@@ -1,0 +1,241 @@
+-- Bytes by their kind: which state they are, whether a fit one, and that a read of the bytes is one of the state. Assumes nothing.
+use mathlib.Core.Bool.{Bool, true, false, not}
+use mathlib.Core.List.{List}
+use mathlib.Core.Path.{_≡_, refl, sym, ap, _∙_}
+use Prim.Native.Nat.{ℕ, zero, suc, _+_, _*_, _<_, _≤_}
+use native.Mathlib.Omega.{arith}
+use lib.Dec.{eqb, ltb, leb}
+use lib.ListN.{length, List·getD-eq-default}
+use borrow.Author.Tests.{le-ltb}
+use Rattle.facts.specs.Choice.{pick, both}
+use Rattle.facts.specs.Listed.{oneOf}
+use Rattle.facts.proofs.ChoiceLaws.{both-left, both-right, both-one, both-false, not-true, not-false}
+use Rattle.banking.specs.Banks.{fromOne}
+use Rattle.bytes_le.specs.Little.{fieldAt}
+use Rattle.image.specs.Image.{paddedLength}
+use Rattle.header.specs.Size.{ramSizes}
+use Rattle.types.specs.Types.{beyondOf}
+use Rattle.types.specs.declared.Kind.{Kind}
+use Rattle.clock_registers.specs.Fit.{fitRegisters}
+use Rattle.clock.specs.Fit.{fitClock}
+use Rattle.no_mapper.specs.Registers as none
+use Rattle.mbc3.specs.Registers as mbc3
+use Rattle.mbc3.specs.declared.Mbc3 as mbc3-state
+use Rattle.mapper.specs.Mappers as mapper
+use Rattle.mapper.specs.Mappers.{kindOf, multicartBanks, holds, areaOf, bank0}
+use Rattle.mapper.specs.declared.Mapper.{Mapper}
+use Rattle.mapper.specs.declared.Mapper.the-variants.{NoMapper}
+use Rattle.window.specs.Window as window
+use Rattle.cartridge.specs.Fit.{bankCounts, fitBoard, fitCart}
+use Rattle.cartridge.specs.Fit as cartridge
+use Rattle.access.specs.Verdict.{noesBy, verdictBy, noes, verdictOf}
+use Rattle.access.specs.declared.Verdict.{Verdict}
+use Rattle.access.specs.declared.Verdict.the-variants.{Ram}
+use Rattle.access.specs.declared.BusRefusal.the-variants.{Unfit}
+use Rattle.access.proofs.Laws.{by-tests}
+use Rattle.bus.specs.Bus.{lentBoth, readVerdict, readBy, readOf}
+use Rattle.bus.specs.declared.ReadAnswer.{ReadAnswer}
+use Rattle.bus.specs.declared.ReadAnswer.the-variants.{Refuse}
+use Rattle.bus.proofs.Laws.{read-answered, read-area}
+use Rattle.state_fields.specs.Fields.{areFlags}
+use Rattle.state_fields.specs.ClockFields.{registersIn, clockIn}
+use Rattle.states.specs.Reading.{flagsOf, mappersIn, untimedIn, timedIn, byKind, decodeOf}
+use Rattle.states.specs.OnState.{onState}
+use Rattle.states.specs.declared.Decoded.{Decoded}
+use Rattle.states.specs.declared.Decoded.the-variants.{To, NoState}
+use Rattle.states.proofs.Laws.{no-kind}
+use Rattle.flat.specs.Kinds.{mapperAt, cartAt, isState, fitAt, fitKind}
+
+-- ---- the state, by its kind
+
+unknown-at : (s : List ℕ) (k : ℕ) → 7 ≤ k → byKind s k ≡ pick (ltb k 7) (To (cartAt s k)) NoState
+unknown-at s k h = sym (no-kind s k h) ∙ ap (λ (b : Bool). pick b (To (cartAt s k)) NoState) (sym (le-ltb k 7 h))
+
+kind-at : (s : List ℕ) (k : ℕ) → byKind s k ≡ pick (ltb k 7) (To (cartAt s k)) NoState
+unfolding byKind mapperAt
+kind-at s zero = refl
+kind-at s (suc zero) = refl
+kind-at s (suc (suc zero)) = refl
+kind-at s (suc (suc (suc zero))) = refl
+kind-at s (suc (suc (suc (suc zero)))) = refl
+kind-at s (suc (suc (suc (suc (suc zero))))) = refl
+kind-at s (suc (suc (suc (suc (suc (suc zero)))))) = refl
+kind-at s (suc (suc (suc (suc (suc (suc (suc k))))))) = unknown-at s (suc (suc (suc (suc (suc (suc (suc k))))))) (omega arith)
+
+pick-both : {A : Type 0} (f b : Bool) (x y : A) → pick f (pick b x y) y ≡ pick (both f b) x y
+pick-both true b x y = refl
+pick-both false b x y = refl
+
+decoded-at : (s : List ℕ) {k : ℕ} → k ≡ fieldAt 1 s 0 → pick (isState s k) (To (cartAt s k)) NoState ≡ decodeOf s
+unfolding decodeOf
+decoded-at s {k} p =
+    sym (pick-both (areFlags s (flagsOf k)) (ltb k 7) (To (cartAt s k)) NoState)
+    ∙ ap (λ (d : Decoded). pick (areFlags s (flagsOf k)) d NoState) (sym (kind-at s k))
+    ∙ ap (λ (n : ℕ). pick (areFlags s (flagsOf n)) (byKind s n) NoState) p
+
+pub no-mapper-at : (s : List ℕ) (k : ℕ) → 7 ≤ k → NoMapper none.start ≡ mapperAt s k
+unfolding mapperAt
+no-mapper-at s k h = sym (List·getD-eq-default (mappersIn s) (NoMapper none.start) h)
+
+-- what holds of the mapper of a kind holds of the bytes of that kind
+pub of-kind : {A : Type 0} (f : Mapper → A) (s : List ℕ) {kind k : ℕ} {m : Mapper} {r : A} → kind ≡ k → m ≡ mapperAt s k → r ≡ f m
+    → r ≡ f (mapperAt s kind)
+of-kind f s e p q = q ∙ ap f p ∙ ap (λ (n : ℕ). f (mapperAt s n)) (sym e)
+
+-- only an MBC1 moves the low window, only an MBC2 has more than the header's RAM
+pub low-bank-0 : (s : List ℕ) (k : ℕ) → (k ≡ 1 → ⊥) → (k ≡ 2 → ⊥) → 0 ≡ bank0 (mapperAt s k)
+unfolding mapperAt
+low-bank-0 s zero a b = refl
+low-bank-0 s (suc zero) a b = absurd (a refl)
+low-bank-0 s (suc (suc zero)) a b = absurd (b refl)
+low-bank-0 s (suc (suc (suc zero))) a b = refl
+low-bank-0 s (suc (suc (suc (suc zero)))) a b = refl
+low-bank-0 s (suc (suc (suc (suc (suc zero))))) a b = refl
+low-bank-0 s (suc (suc (suc (suc (suc (suc zero)))))) a b = refl
+low-bank-0 s (suc (suc (suc (suc (suc (suc (suc k))))))) a b = refl
+
+pub area-of-size : (s : List ℕ) (k size : ℕ) → (k ≡ 3 → ⊥) → size ≡ areaOf (mapperAt s k) size
+unfolding mapperAt
+area-of-size s zero size a = refl
+area-of-size s (suc zero) size a = refl
+area-of-size s (suc (suc zero)) size a = refl
+area-of-size s (suc (suc (suc zero))) size a = absurd (a refl)
+area-of-size s (suc (suc (suc (suc zero)))) size a = refl
+area-of-size s (suc (suc (suc (suc (suc zero))))) size a = refl
+area-of-size s (suc (suc (suc (suc (suc (suc zero)))))) size a = refl
+area-of-size s (suc (suc (suc (suc (suc (suc (suc k))))))) size a = refl
+
+-- ---- fitness
+
+pub registers-tested : (s : List ℕ) (at : ℕ) {a b h d : ℕ} {x y t : Bool} → a ≡ fieldAt 1 s at → b ≡ fieldAt 1 s (at + 1)
+    → h ≡ fieldAt 1 s (at + 2) → d ≡ fieldAt 2 s (at + 3) → x ≡ both (ltb h 32) (ltb d 512) → y ≡ both (ltb b 64) x
+    → t ≡ both (ltb a 64) y
+    → t ≡ fitRegisters (registersIn s at)
+unfolding fitRegisters
+registers-tested s at p q r e x y t = rw (sym p, sym q, sym r, sym e, sym x, sym y) t
+
+pub clock-tested : (s : List ℕ) {n : ℕ} {a b x t : Bool} → n ≡ fieldAt 4 s 40 → a ≡ fitRegisters (registersIn s 45)
+    → b ≡ fitRegisters (registersIn s 52) → x ≡ both b (ltb n 2097152) → t ≡ both a x
+    → t ≡ fitClock (clockIn s)
+unfolding fitClock
+clock-tested s p q r x t = rw (sym p, sym q, sym r, sym x) t
+
+pub timed-tested : (s : List ℕ) {n : ℕ} {m : mbc3-state.Mbc3} {a k x t : Bool} → m ≡ untimedIn s → a ≡ mbc3.fitRegisters m
+    → n ≡ fieldAt 1 s 7 → k ≡ fitClock (clockIn s) → x ≡ both (leb n 4) k → t ≡ both a x
+    → t ≡ mbc3.fitRegisters (timedIn s)
+unfolding mbc3.fitRegisters
+timed-tested s {n} {x = x} p q r e y t =
+    let banks = both (fromOne 255 (fieldAt 1 s 4)) (leb (fieldAt 1 s 6) 3) in
+    t ∙ ap (λ (b : Bool). both b x) (q ∙ ap mbc3.fitRegisters p ∙ both-one banks)
+    ∙ ap (both banks) (y ∙ ap (both (leb n 4)) e ∙ ap (λ (i : ℕ). both (leb i 4) (fitClock (clockIn s))) r)
+
+pub limits-tested : (s : List ℕ) (kind : ℕ) (l : Kind) (t : Bool) {n z : ℕ} {f b h r : Bool} → f ≡ areFlags s (flagsOf kind)
+    → n ≡ fieldAt 2 s 8 → z ≡ fieldAt 8 s 24 → b ≡ beyondOf l n z → h ≡ both f (not b) → r ≡ both h t
+    → r ≡ both (both (areFlags s (flagsOf kind)) (not (beyondOf l (fieldAt 2 s 8) (fieldAt 8 s 24)))) t
+limits-tested s kind l t p q r b h e = rw (sym p, sym q, sym r, sym b, sym h) e
+
+limits-first : (f b g r : Bool) → both (both f (not b)) (both g r) ≡ both (both f true) (both (both (not b) g) r)
+limits-first true true g r = refl
+limits-first true false g r = refl
+limits-first false b g r = refl
+
+pub kind-fits : (s : List ℕ) {kind : ℕ} (k : ℕ) {l : Kind} {m : Mapper} {t r : Bool} → kind ≡ k → m ≡ mapperAt s k → ltb k 7 ≡ true
+    → l ≡ kindOf m
+    → t ≡ both (multicartBanks m (fieldAt 2 s 8)) (mapper.fitRegisters m)
+    → r ≡ both (both (areFlags s (flagsOf k)) (not (beyondOf l (fieldAt 2 s 8) (fieldAt 8 s 24)))) t
+    → r ≡ fitKind s kind
+unfolding holds
+kind-fits s k {l} {m} {t} e p b q x y =
+    let f = areFlags s (flagsOf k) in
+    let n = fieldAt 2 s 8 in
+    let z = fieldAt 8 s 24 in
+    y
+    ∙ ap (λ (i : Kind). both (both f (not (beyondOf i n z))) t) q
+    ∙ ap (both (both f (not (beyondOf (kindOf m) n z)))) x
+    ∙ limits-first f (beyondOf (kindOf m) n z) (multicartBanks m n) (mapper.fitRegisters m)
+    ∙ ap (λ (i : Bool). both (both f i) (both (holds m n z) (mapper.fitRegisters m))) (sym b)
+    ∙ ap (λ (i : Mapper). both (isState s k) (both (holds i n z) (mapper.fitRegisters i))) p
+    ∙ ap (fitKind s) (sym e)
+
+pub unknown-unfit : (s : List ℕ) (k : ℕ) → 7 ≤ k → false ≡ fitKind s k
+unknown-unfit s k h =
+    ap (λ (i : Bool). both i (both (holds (mapperAt s k) (fieldAt 2 s 8) (fieldAt 8 s 24)) (mapper.fitRegisters (mapperAt s k))))
+    (sym (both-false (areFlags s (flagsOf k))) ∙ ap (both (areFlags s (flagsOf k))) (sym (le-ltb k 7 h)))
+
+board-first : (f a b z h r : Bool)
+    → both (both (both a b) z) (both f (both h r)) ≡ both f (both (both (both a b) (both z h)) r)
+board-first true true true true h r = refl
+board-first true true true false h r = refl
+board-first true true false z h r = refl
+board-first true false b z h r = refl
+board-first false a b z h r = both-false (both (both a b) z)
+
+pub fit-tested : (s : List ℕ) (kind : ℕ) {n l z : ℕ} {a b d : Bool} → n ≡ fieldAt 2 s 8 → l ≡ fieldAt 8 s 16 → z ≡ fieldAt 8 s 24
+    → oneOf n bankCounts ≡ a → eqb (paddedLength l) (n * 0x4000) ≡ b → oneOf z ramSizes ≡ d
+    → both (both (both a b) d) (fitKind s kind) ≡ fitAt s kind
+unfolding fitCart fitBoard
+fit-tested s kind {n} {l} {z} {b = b} {d = d} p q r x y w =
+    let k = fitKind s kind in
+    let m = mapperAt s kind in
+    let banks = fieldAt 2 s 8 in
+    let size = fieldAt 8 s 24 in
+    ap (λ (i : Bool). both (both (both i b) d) k) (sym x ∙ ap (λ (i : ℕ). oneOf i bankCounts) p)
+    ∙ ap (λ (i : Bool). both (both (both (oneOf banks bankCounts) i) d) k)
+    (sym y ∙ ap (λ (i : ℕ). eqb (paddedLength l) (i * 0x4000)) p ∙ ap (λ (i : ℕ). eqb (paddedLength i) (banks * 0x4000)) q)
+    ∙ ap (λ (i : Bool). both (both (both (oneOf banks bankCounts) (eqb (paddedLength (fieldAt 8 s 16)) (banks * 0x4000))) i) k)
+    (sym w ∙ ap (λ (i : ℕ). oneOf i ramSizes) r)
+    ∙ board-first (isState s kind) (oneOf banks bankCounts) (eqb (paddedLength (fieldAt 8 s 16)) (banks * 0x4000)) (oneOf size ramSizes)
+    (holds m banks size) (mapper.fitRegisters m)
+
+-- ---- the RAM area
+
+pub area-at : (s : List ℕ) {kind k z n : ℕ} {m : Mapper} → kind ≡ k → m ≡ mapperAt s k → z ≡ fieldAt 8 s 24
+    → n ≡ cartridge.areaOf (cartAt s kind)
+    → n ≡ areaOf m z
+area-at s {k = k} {m = m} e p q r =
+    r ∙ ap (λ (i : ℕ). areaOf (mapperAt s i) (fieldAt 8 s 24)) e ∙ ap (λ (i : Mapper). areaOf i (fieldAt 8 s 24)) (sym p)
+    ∙ ap (areaOf m) (sym q)
+
+pub read-at : (s ram : List ℕ) (addr : ℕ) {kind k z r : ℕ} {m : Mapper} → kind ≡ k → m ≡ mapperAt s k → z ≡ fieldAt 8 s 24
+    → r ≡ window.readOf m z ram addr
+    → r ≡ window.readOf (mapperAt s kind) (fieldAt 8 s 24) ram addr
+read-at s ram addr {m = m} e p q r =
+    of-kind (λ (i : Mapper). window.readOf i (fieldAt 8 s 24) ram addr) s e p
+    (r ∙ ap (λ (i : ℕ). window.readOf m i ram addr) q)
+
+-- ---- a read of the bytes is one of the state
+
+module _ (s rom ram : List ℕ) (addr : ℕ) {k : ℕ} {f : Bool} (p : k ≡ fieldAt 1 s 0) (q : f ≡ fitAt s k) where
+  abbrev answer : Decoded → ReadAnswer
+  answer = onState (λ c. readOf c rom ram addr) (Refuse Unfit)
+
+  refused : (b : Bool) → both b (fitCart (cartAt s k)) ≡ false → Refuse Unfit ≡ answer (pick b (To (cartAt s k)) NoState)
+  unfolding readOf readVerdict
+  refused true e = ap (readBy (cartAt s k) rom ram addr) (by-tests (cartAt s k) _ addr false e refl refl refl refl)
+  refused false e = refl
+
+  pub unfit-read : not f ≡ true → Refuse Unfit ≡ answer (decodeOf s)
+  unfit-read h = refused (isState s k) (sym q ∙ not-true f h) ∙ ap answer (decoded-at s p)
+
+  module _ (h : not f ≡ false) where
+    fit-state : fitAt s k ≡ true
+    fit-state = sym q ∙ not-false f h
+
+    pub fit-cart : fitCart (cartAt s k) ≡ true
+    fit-cart = both-right (isState s k) _ fit-state
+
+    is-decoded : To (cartAt s k) ≡ decodeOf s
+    is-decoded =
+        ap (λ (b : Bool). pick b (To (cartAt s k)) NoState) (sym (both-left (isState s k) _ fit-state)) ∙ decoded-at s p
+
+    module _ {l : Bool} {v : Verdict} (r : l ≡ lentBoth (cartAt s k) (length rom) (length ram))
+        (e : v ≡ verdictBy addr (noesBy true l addr false)) where
+      judged : v ≡ verdictOf (cartAt s k) l addr false
+      unfolding verdictOf noes
+      judged = e ∙ ap (λ (b : Bool). verdictBy addr (noesBy b l addr false)) (sym fit-cart)
+
+      pub area-lent : v ≡ Ram → length ram ≡ cartridge.areaOf (cartAt s k)
+      area-lent = read-area (cartAt s k) addr rom ram refl r judged
+
+      pub fit-read : {u : Verdict} → v ≡ u → readBy (cartAt s k) rom ram addr u ≡ answer (decodeOf s)
+      fit-read g = read-answered (cartAt s k) addr rom ram refl r judged g ∙ ap answer is-decoded
