@@ -1,0 +1,566 @@
+//! One cartridge in both: the same image, save and accesses, each answer compared, and what the domain says of it.
+use crate::clocks::{Lazy, Registers, Stepwise};
+use crate::original::{self, Files, Mounted, Original};
+use crate::recipe::hex;
+use crate::tally::*;
+use imfelkuz::sys::{self, State, Windows};
+use imfelkuz::Facts;
+use std::fmt;
+
+#[derive(Clone, Copy, PartialEq)]
+pub enum Access {
+    Read(u16),
+    Write(u16, u8),
+    Clocks(u32),
+}
+
+impl fmt::Display for Access {
+    fn fmt(&self, f: &mut fmt::Formatter<'_>) -> fmt::Result {
+        match self {
+            Access::Read(addr) => write!(f, "R {:04X}", addr),
+            Access::Write(addr, byte) => write!(f, "W {:04X} {:02X}", addr, byte),
+            Access::Clocks(n) => write!(f, "C {}", n),
+        }
+    }
+}
+
+/// A difference that is on no list.
+pub struct Found {
+    pub what: String,
+}
+
+fn found<T>(what: String) -> Result<T, Found> {
+    Err(Found { what })
+}
+
+// ---- the clauses of the domain, as bits
+
+/// A second that no unlatched clock read followed.
+pub const UNREAD: u8 = 1;
+/// A second that passed while the clock was frozen.
+pub const FROZEN: u8 = 2;
+/// A carry.
+pub const CARRY: u8 = 4;
+/// Minute 60 or hour 24 written.
+pub const SIXTY: u8 = 8;
+/// A save read with its clock.
+pub const SAVE: u8 = 16;
+/// A save read with a part of its clock.
+pub const BLOCK: u8 = 32;
+
+fn rule_of(left: u8) -> Rule {
+    match left {
+        _ if left & BLOCK != 0 => Rule::ShortBlock,
+        _ if left & SAVE != 0 => Rule::SaveRead,
+        UNREAD => Rule::Unread,
+        FROZEN | 3 => Rule::Frozen,
+        CARRY => Rule::Carry,
+        SIXTY => Rule::Sixty,
+        _ => Rule::Several,
+    }
+}
+
+/// What is known of a cartridge with a timer.
+pub struct Timer {
+    pub enabled: bool,
+    pub memory: bool,
+    pub register: u8,
+    pub stepwise: Stepwise,
+    pub lazy: Lazy,
+    /// Seconds since the last unlatched clock read.
+    pub due: u64,
+    /// The clauses that the sequence has left.
+    pub left: u8,
+}
+
+fn in_ram(addr: u16) -> bool {
+    addr & 0xE000 == 0xA000
+}
+
+impl Timer {
+    fn new(wall: u64) -> Timer {
+        let (stepwise, lazy) = (Stepwise::new(wall), Lazy::new(wall));
+        Timer { enabled: true, memory: false, register: 0, stepwise, lazy, due: 0, left: 0 }
+    }
+
+    fn on_clock(&self, addr: u16) -> bool {
+        in_ram(addr) && self.enabled && !self.memory
+    }
+
+    /// The clauses that an access would leave.
+    pub fn leaves(&self, access: Access) -> u8 {
+        let mut left = 0;
+        match access {
+            Access::Read(_) => {}
+            Access::Write(addr, byte) => {
+                let clock = self.on_clock(addr);
+                if self.due > 0 && (clock || addr & 0xE000 == 0x6000) {
+                    left |= UNREAD;
+                }
+                if clock && (self.register == 1 && byte & 0x3F == 60 || self.register == 2 && byte & 0x1F == 24) {
+                    left |= SIXTY;
+                }
+                if clock && self.register == 4 && byte & 0x80 != 0 {
+                    left |= CARRY;
+                }
+            }
+            Access::Clocks(n) => {
+                let seconds = self.stepwise.completed(n as u64);
+                if self.due + seconds > 1 {
+                    left |= UNREAD;
+                }
+                if seconds > 0 && self.stepwise.latched {
+                    left |= FROZEN;
+                }
+                if seconds > 0 && self.stepwise.running.day == 511 {
+                    let mut later = self.stepwise.running;
+                    (0..seconds).for_each(|_| later.step());
+                    if later.carry {
+                        left |= CARRY;
+                    }
+                }
+            }
+        }
+        left
+    }
+
+    // What a write does to what is known.
+    fn write(&mut self, addr: u16, byte: u8) {
+        match addr {
+            0x0000..=0x1FFF => self.enabled = byte & 0xF == 0xA,
+            0x4000..=0x5FFF if byte & 0xF < 4 => self.memory = true,
+            0x4000..=0x5FFF => {
+                self.memory = false;
+                self.register = (byte & 0xF) - 8;
+            }
+            0x6000..=0x7FFF => {
+                self.stepwise.latch(byte & 1 == 1);
+                self.lazy.latch(byte & 1 == 1);
+            }
+            _ if self.on_clock(addr) => {
+                self.stepwise.write(self.register, byte);
+                self.lazy.write(self.register, byte);
+            }
+            _ => {}
+        }
+    }
+}
+
+// ---- the library's side
+
+struct Ours {
+    state: State,
+    ram: Vec<u8>,
+    /// Every second cartridge is read and written through windows where they can say.
+    windows: Option<Windows>,
+}
+
+impl Ours {
+    #[inline]
+    fn read(&self, image: &[u8], addr: u16) -> u32 {
+        if let Some(windows) = &self.windows {
+            let answer = sys::window_read(windows, image, &self.ram, addr);
+            if answer != sys::ASK {
+                return answer;
+            }
+        }
+        sys::read(&self.state, image, &self.ram, addr)
+    }
+
+    #[inline]
+    fn write(&mut self, addr: u16, byte: u8) -> u32 {
+        if let Some(windows) = &mut self.windows {
+            let answer = sys::window_write(windows, &mut self.ram, addr, byte);
+            if answer != sys::ASK {
+                return answer;
+            }
+            let answer = sys::write(&mut self.state, &mut self.ram, addr, byte);
+            sys::windows(&self.state, windows);
+            return answer;
+        }
+        sys::write(&mut self.state, &mut self.ram, addr, byte)
+    }
+
+    fn registers(&self, at: usize) -> Registers {
+        let s = &self.state[at..at + 7];
+        let day = u16::from_le_bytes([s[3], s[4]]);
+        Registers { second: s[0], minute: s[1], hour: s[2], day, halt: s[5] == 1, carry: s[6] == 1 }
+    }
+
+    fn long(&self, at: usize) -> u64 {
+        u64::from_le_bytes(self.state[at..at + 8].try_into().unwrap())
+    }
+}
+
+// ---- both
+
+pub struct Machine {
+    ours: Ours,
+    original: Box<Original>,
+    pub kind: usize,
+    pub banks: u32,
+    pub timer: Option<Timer>,
+}
+
+fn kind_of(ty: u8, multicart: bool) -> usize {
+    match ty {
+        1..=3 => 1 + multicart as usize,
+        5 | 6 => 3,
+        0x11..=0x13 => 4,
+        0x0F | 0x10 => 5,
+        0x19..=0x1E => 6,
+        _ => 0,
+    }
+}
+
+/// Mounts an image in both, with a save where one is given. A machine where both go on; none where both refuse, or the difference is
+/// listed and ends it.
+pub fn mount(
+    files: &Files,
+    tally: &mut Tally,
+    image: &[u8],
+    fresh: bool,
+    save: Option<&[u8]>,
+    wall: u64,
+    windows: bool,
+) -> Result<Option<Machine>, Found> {
+    let mut numbers = [0xEEEE_EEEE; 12];
+    let verdict = sys::header(image, &mut numbers);
+    let said = original::mount(files, image, fresh, save, wall);
+    tally.verdicts[verdict as usize] += 1;
+    tally.lengths(image.len());
+    let mut original = match (said, verdict) {
+        (Mounted::Taken(original), 0) => original,
+        (Mounted::Refused(number), _) if number == verdict => return Ok(None),
+        (Mounted::Stopped(_), 11) => {
+            tally.listed(Rule::BeyondStops);
+            return Ok(None);
+        }
+        (Mounted::Taken(original), 11) if matches!(original.ty, 1..=3) && image.len() > 0x200000 => {
+            tally.listed(Rule::BeyondTaken);
+            return Ok(None);
+        }
+        (_, 1) if image.len() > 0x800000 => {
+            tally.listed(Rule::TooLong);
+            return Ok(None);
+        }
+        (Mounted::Taken(_), n) => return found(format!("mounting: the original takes it, the library {}", n)),
+        (Mounted::Refused(m), n) => return found(format!("mounting: the original {}, the library {}", m, n)),
+        (Mounted::Stopped(why), n) => return found(format!("mounting: the original stops ({}), the library {}", why, n)),
+    };
+
+    // What the header says.
+    let facts = match Facts::of(image) {
+        Ok(facts) => facts,
+        Err(why) => return found(format!("mounting: the header is taken and then refused with {}", why.number())),
+    };
+    let fields = original.fields();
+    let title = &image[numbers[8] as usize..][..numbers[9] as usize];
+    let kind = kind_of(original.ty, fields.multicart);
+    if numbers[0] as usize != kind || fields.timer != facts.timer {
+        return found(format!("mounting: the original has kind {}, the library {}", kind, numbers[0]));
+    }
+    if facts.rom_banks as u64 != fields.rom_banks as u64 {
+        return found(format!("mounting: the original has {} banks, the library {}", fields.rom_banks, facts.rom_banks));
+    }
+    if title != original.title().as_bytes() || facts.colour != original.colour() {
+        return found(format!("mounting: the original's title is {:?}, the library's {}", original.title(), hex(title)));
+    }
+
+    let mut ours = Ours { state: [0xEE; 64], ram: vec![0xEE; numbers[3] as usize], windows: None };
+    let answer = sys::mount(&mut ours.state, image, &mut ours.ram, wall);
+    if answer != 0 {
+        return found(format!("mounting: the original takes it, the library {}", answer));
+    }
+    if windows {
+        let mut windows = [0; 6];
+        sys::windows(&ours.state, &mut windows);
+        ours.windows = Some(windows);
+    }
+    let timer = facts.timer.then(|| Timer::new(wall));
+    let mut machine = Machine { ours, original, kind, banks: facts.rom_banks as u32, timer };
+    let goes_on = match save {
+        Some(save) if facts.battery => machine.load(tally, save, wall, numbers[2] as usize)?,
+        _ => true,
+    };
+    machine.same_ram("after mounting")?;
+    Ok(goes_on.then(|| machine))
+}
+
+impl Machine {
+    // A save that the original has read at mounting. Whether both go on.
+    fn load(&mut self, tally: &mut Tally, save: &[u8], wall: u64, ram_size: usize) -> Result<bool, Found> {
+        tally.saves_read += 1;
+        let mut clock = 2;
+        let answer = sys::save_in(&mut self.ours.state, &mut self.ours.ram, save, wall, &mut clock);
+        if let Some(windows) = &mut self.ours.windows {
+            sys::windows(&self.ours.state, windows);
+        }
+        let area = self.ours.ram.len();
+        let fields = self.original.fields();
+        match (answer, &mut self.timer) {
+            (0, None) if save.len() >= area && clock == 0 => Ok(true),
+            (0, Some(timer)) if save.len() >= area + 21 && clock == 1 => {
+                timer.left |= SAVE;
+                timer.stepwise.load(&save[area..], wall);
+                timer.lazy.load(&save[area..]);
+                Ok(true)
+            }
+            (0, Some(timer)) if save.len() >= area && save.len() < area + 21 && clock == 0 => {
+                timer.left |= BLOCK;
+                timer.lazy.load(&save[area..]);
+                tally.listed(Rule::ShortBlock);
+                Ok(true)
+            }
+            (19, _) if save.len() < area && self.kind == 3 && save.len() >= ram_size => {
+                tally.listed(Rule::ShortHalfBytes);
+                let mut expected = save.to_vec();
+                expected.resize(area, 0);
+                self.ours.ram.copy_from_slice(&expected);
+                Ok(false)
+            }
+            (19, _) if save.len() < area => {
+                tally.listed(Rule::ShortSave);
+                Ok(true)
+            }
+            (20, Some(_)) if save.len() >= area + 21 => {
+                let b = &save[area..];
+                let day = u16::from_le_bytes([b[3], b[4]]);
+                let r = fields.clock;
+                let wide = b[0] > 63 || b[1] > 63 || b[2] > 31 || day > 511;
+                if !wide || (r.second, r.minute, r.hour, r.day) != (b[0], b[1], b[2], day) {
+                    return found(format!("a save read: the library 20, the original {:?}", r));
+                }
+                tally.listed(Rule::WideBlock);
+                self.ours.ram.copy_from_slice(&save[..area]);
+                Ok(false)
+            }
+            (17, Some(_)) if save.len() >= area + 21 => {
+                let offset = u64::from_le_bytes(save[area + 13..area + 21].try_into().unwrap());
+                if wall.checked_add(offset).is_some() || fields.time != wall.wrapping_add(offset) {
+                    return found(format!("a save read: the library 17, the original's time {}", fields.time));
+                }
+                tally.listed(Rule::LateOffset);
+                self.ours.ram.copy_from_slice(&save[..area]);
+                Ok(false)
+            }
+            _ => found(format!("a save of {} bytes for an area of {}: the library {}, clock {}", save.len(), area, answer, clock)),
+        }
+    }
+
+    fn same_ram(&mut self, when: &str) -> Result<(), Found> {
+        let ram = self.original.ram();
+        if ram != self.ours.ram {
+            let place = ram.iter().zip(&self.ours.ram).position(|(a, b)| a != b);
+            return match place {
+                Some(i) => {
+                    let (a, b) = (ram[i], self.ours.ram[i]);
+                    found(format!("{}: RAM byte {:X} is {:02X} in the original, {:02X} in the library", when, i, a, b))
+                }
+                None => found(format!("{}: RAM of {} and {} bytes", when, ram.len(), self.ours.ram.len())),
+            };
+        }
+        Ok(())
+    }
+
+    /// One access to both.
+    pub fn step(&mut self, tally: &mut Tally, image: &[u8], access: Access) -> Result<(), Found> {
+        if let Some(timer) = &mut self.timer {
+            timer.left |= timer.leaves(access);
+        }
+        match access {
+            Access::Read(addr) => self.read(tally, image, addr),
+            Access::Write(addr, byte) => self.write(tally, addr, byte),
+            Access::Clocks(n) => {
+                tally.accesses[self.kind][5] += 1;
+                let answer = sys::advance(&mut self.ours.state, n as u64);
+                if answer != 0 {
+                    return found(format!("the library refuses clocks with {}", answer));
+                }
+                self.original.clocks(n as u64);
+                if let Some(timer) = &mut self.timer {
+                    timer.due += timer.stepwise.completed(n as u64);
+                    timer.stepwise.clocks(n as u64);
+                    timer.lazy.clocks(n as u64);
+                }
+                Ok(())
+            }
+        }
+    }
+
+    fn read(&mut self, tally: &mut Tally, image: &[u8], addr: u16) -> Result<(), Found> {
+        let ours = self.ours.read(image, addr);
+        if addr >= 0x8000 && !in_ram(addr) {
+            return outside(tally, ours.wrapping_sub(sys::REFUSED));
+        }
+        let original = self.original.read(addr) as u32;
+        tally.accesses[self.kind][(addr >> 14) as usize] += 1;
+        if let Some(timer) = &mut self.timer {
+            if timer.on_clock(addr) {
+                let expected = timer.stepwise.read(timer.register) as u32;
+                let lazy = timer.lazy.read(timer.register) as u32;
+                if !timer.stepwise.latched {
+                    timer.due = 0;
+                }
+                if timer.left != 0 {
+                    if ours != expected || original != lazy {
+                        return found(format!(
+                            "the original {:02X}, expected {:02X}; the library {:02X}, expected {:02X}; outside the domain by {}",
+                            original,
+                            lazy,
+                            ours,
+                            expected,
+                            rule_of(timer.left).words()
+                        ));
+                    }
+                    tally.outside_reads += 1;
+                    if ours != original {
+                        tally.listed(rule_of(timer.left));
+                    }
+                    return Ok(());
+                }
+            }
+        }
+        if ours != original {
+            return found(format!("the original {:02X}, the library {}", original, answer(ours)));
+        }
+        Ok(())
+    }
+
+    fn write(&mut self, tally: &mut Tally, addr: u16, byte: u8) -> Result<(), Found> {
+        let answer = self.ours.write(addr, byte);
+        if addr >= 0x8000 && !in_ram(addr) {
+            return outside(tally, answer);
+        }
+        if answer == 16 {
+            if !matches!(self.kind, 4 | 5) || !self.original.write_stops(addr, byte) {
+                return found("the library 16, the original takes it".to_string());
+            }
+            tally.listed(Rule::Selection);
+            return Ok(());
+        }
+        if answer != 0 {
+            return found(format!("the library refuses with {}", answer));
+        }
+        self.original.write(addr, byte);
+        if let Some(timer) = &mut self.timer {
+            timer.write(addr, byte);
+        }
+        tally.accesses[self.kind][if in_ram(addr) { 4 } else { 3 }] += 1;
+        Ok(())
+    }
+
+    /// Compares all that is left: the RAM area, the registers, and the save that each writes at a wall time.
+    pub fn end(mut self, files: &Files, tally: &mut Tally, wall: u64) -> Result<(), Found> {
+        tally.sequences += 1;
+        self.same_ram("at the end")?;
+        tally.ram_bytes += self.ours.ram.len() as u64;
+        let fields = self.original.fields();
+        let s = &self.ours.state;
+        let register = if self.timer.is_some() { fields.register } else { 0 };
+        let theirs = (fields.enabled, fields.mode, fields.bank, fields.ram_bank, register);
+        let ours = (s[2] == 1, s[3] == 1, u16::from_le_bytes([s[4], s[5]]), s[6], s[7]);
+        if theirs != ours {
+            return found(format!("registers at the end: the original {:X?}, the library {:X?}", theirs, ours));
+        }
+        let left = match &self.timer {
+            None => 0,
+            Some(timer) => timer.left | if timer.due > 0 { UNREAD } else { 0 },
+        };
+        if let Some(timer) = &self.timer {
+            let time = (self.ours.long(40) & 0xFFFF_FFFF, self.ours.long(32), self.ours.state[44] == 1);
+            let ours = (self.ours.registers(45), time);
+            let theirs = (fields.clock, (fields.sub as u64, fields.time, fields.latched));
+            if left == 0 && ours != theirs {
+                return found(format!("the clock at the end: the original {:?}, the library {:?}", theirs, ours));
+            }
+            if left != 0 {
+                let (step, lazy) = (&timer.stepwise, &timer.lazy);
+                let expected = (step.running, (step.sub, step.time, step.latched));
+                let known = Lazy { registers: fields.clock, latched: fields.latched, sub: fields.sub as u64, last: fields.last, time: fields.time };
+                if ours != expected || self.ours.registers(52) != step.frozen || known != *lazy {
+                    return found(format!(
+                        "the clock at the end: the original {:?}, expected {:?}; the library {:?}, expected {:?}",
+                        known, lazy, ours, expected
+                    ));
+                }
+                if ours != theirs {
+                    tally.listed(rule_of(left));
+                }
+            }
+        }
+        self.saves(files, tally, wall, left)
+    }
+
+    fn saves(mut self, files: &Files, tally: &mut Tally, wall: u64, left: u8) -> Result<(), Found> {
+        let mut room = vec![0xEE; self.ours.ram.len() + 32];
+        let mut size = 0;
+        let answer = sys::save_out(&self.ours.state, &self.ours.ram, &mut room, wall, &mut size);
+        let theirs = match self.original.end(files, wall) {
+            Ok(theirs) => theirs,
+            Err(why) => return found(format!("saving: the original stops ({})", why)),
+        };
+        let theirs = match (answer, theirs) {
+            (18, None) => return Ok(()),
+            (0, Some(theirs)) => theirs,
+            (answer, theirs) => return found(format!("saving: the library {}, the original {:?}", answer, theirs.map(|s| s.len()))),
+        };
+        tally.saves_written += 1;
+        room.truncate(size as usize);
+        if left == 0 {
+            if room != theirs {
+                let area = self.ours.ram.len();
+                let tail = |save: &[u8]| hex(&save[area.min(save.len())..]);
+                return found(format!("saves of {} and {} bytes: .. {} and .. {}", theirs.len(), size, tail(&theirs), tail(&room)));
+            }
+            return Ok(());
+        }
+        let timer = self.timer.as_ref().unwrap();
+        let with = |block: Vec<u8>| [&self.ours.ram[..], &block].concat();
+        if room != with(timer.stepwise.save(wall)) || theirs != with(timer.lazy.save(wall)) {
+            return found("saves: not as expected".to_string());
+        }
+        if room != theirs {
+            tally.listed(rule_of(left));
+        }
+        Ok(())
+    }
+
+    /// What the original answers to an access, for the vectors. The library must answer so too.
+    pub fn answer(&mut self, tally: &mut Tally, image: &[u8], access: Access) -> Result<String, Found> {
+        let mut line = access.to_string();
+        if let Access::Read(addr) = access {
+            line += &format!(" {:02X}", self.ours.read(image, addr));
+        }
+        self.step(tally, image, access)?;
+        Ok(line)
+    }
+
+    pub fn ram(&self) -> &[u8] {
+        &self.ours.ram
+    }
+
+    pub fn save(&self, wall: u64) -> Option<Vec<u8>> {
+        let mut room = vec![0; self.ours.ram.len() + 21];
+        let mut size = 0;
+        let answer = sys::save_out(&self.ours.state, &self.ours.ram, &mut room, wall, &mut size);
+        room.truncate(size as usize);
+        (answer == 0).then(|| room)
+    }
+}
+
+// An address that is no cartridge's: the original is not asked.
+fn outside(tally: &mut Tally, number: u32) -> Result<(), Found> {
+    if number != 15 {
+        return found(format!("an address outside: the library {}", number));
+    }
+    tally.listed(Rule::Address);
+    Ok(())
+}
+
+fn answer(answer: u32) -> String {
+    match answer {
+        0..=0xFF => format!("{:02X}", answer),
+        _ => format!("refuses with {}", answer.wrapping_sub(sys::REFUSED)),
+    }
+}
