@@ -1,4 +1,4 @@
-.PHONY: test replay kit player player-library player-test valgrind bench x86-64
+.PHONY: test replay kit player player-library player-test valgrind bench compare compare-states compare-vectors original x86-64
 
 # The folder with `cart.rom` and `cart.trace` that `make replay` runs on.
 DIR ?= crates/replay/data
@@ -63,6 +63,27 @@ valgrind: x86-64 player-library
 # Times and instruction counts; with ORIGINAL=folder of mizu-core 1.3.0's source beside it too. player/bench says what is measured.
 bench: x86-64 player-library
 	@ORIGINAL="$(ORIGINAL)" player/bench/run "$(LIBRARY)" "$(PLAYER)/bench"
+
+# The library against mizu-core 1.3.0, from ORIGINAL=folder of its source: images and accesses, and every state of the clock's registers.
+# SEED, IMAGES and ACCESSES may be given, and WORDS for another run; compare/README.md says which there are.
+SEED ?= 20261115
+IMAGES ?= 100000
+ACCESSES ?= 2000
+COMPARE = @compare/run "$(ORIGINAL)" "$(LIBRARY)" "$(CURDIR)/target/compare"
+compare: original x86-64 player-library
+	$(COMPARE) $(or $(WORDS),--seed $(SEED) --images $(IMAGES) --accesses $(ACCESSES) --out "$(CURDIR)/target/compare")
+
+compare-states: original x86-64 player-library
+	$(COMPARE) states
+
+# The sample that `make test` replays, made anew.
+compare-vectors: original x86-64 player-library
+	$(COMPARE) vectors --seed $(SEED) --to "$(CURDIR)/compare/vectors/sample.txt"
+
+original:
+	@[ "$(ORIGINAL)" ] || { \
+	  echo "ORIGINAL is not given: 'make compare ORIGINAL=folder' takes the folder of mizu-core 1.3.0's source, with src/cartridge.rs in it."; \
+	  exit 1; }
 
 x86-64:
 	@tools/x86-64 check

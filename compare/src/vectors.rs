@@ -1,5 +1,6 @@
 //! A fixed sample of the original's answers, as text, for a test with no original at hand.
 use crate::draw::Draw;
+use crate::images;
 use crate::machine::{self, Found};
 use crate::play::Player;
 use crate::recipe::sum;
@@ -23,11 +24,17 @@ pub fn write(bench: &mut Bench, seed: u64, to: &Path) {
     let mut text = HEAD.replace("SEED", &seed.to_string());
     let mut bytes = Vec::new();
     let (mut images, mut taken, mut lines) = (0, 0, 0);
+    // Some that are not drawn, then drawn ones.
+    let mut fixed: Vec<_> = images::sweep(&mut Draw::new(seed)).into_iter().step_by(233).map(|(image, _)| image).collect();
     let mut i = 0;
-    while images < 400 {
+    while images < 500 {
         let mut draw = Draw::new(seed.wrapping_mul(31).wrapping_add(i));
         i += 1;
-        let (image, save, wall, later) = crate::one(&mut draw);
+        let (mut image, mut save, wall, later) = crate::one(&mut draw);
+        if let Some(other) = fixed.pop() {
+            image = other;
+            save = None;
+        }
         // Large ones make the test slow: some are enough.
         if image.len > 0x100000 && images % 40 != 7 {
             continue;
@@ -43,8 +50,8 @@ pub fn write(bench: &mut Bench, seed: u64, to: &Path) {
             Ok(mounted) => mounted,
             Err(found) => panic!("{}: {}", case, found.what),
         };
-        // What is only listed is no answer of the original's.
-        if bench.tally.rules != before {
+        // What is only listed is no answer of the original's. And of damaged logos a few are enough.
+        if bench.tally.rules != before || verdict == 2 && images % 5 != 0 {
             continue;
         }
         if let Some(mut machine) = mounted {
