@@ -198,8 +198,9 @@ pub struct Machine {
     ours: Ours,
     original: Box<Original>,
     pub kind: usize,
-    pub banks: u32,
     pub timer: Option<Timer>,
+    /// What the last read gave, in the original and in the library.
+    pub seen: Option<(u32, u32)>,
 }
 
 fn kind_of(ty: u8, multicart: bool) -> usize {
@@ -278,7 +279,7 @@ pub fn mount(
         ours.windows = Some(windows);
     }
     let timer = facts.timer.then(|| Timer::new(wall));
-    let mut machine = Machine { ours, original, kind, banks: facts.rom_banks as u32, timer };
+    let mut machine = Machine { ours, original, kind, timer, seen: None };
     let goes_on = match save {
         Some(save) if facts.battery => machine.load(tally, save, wall, numbers[2] as usize)?,
         _ => true,
@@ -368,6 +369,7 @@ impl Machine {
         if let Some(timer) = &mut self.timer {
             timer.left |= timer.leaves(access);
         }
+        self.seen = None;
         match access {
             Access::Read(addr) => self.read(tally, image, addr),
             Access::Write(addr, byte) => self.write(tally, addr, byte),
@@ -394,6 +396,7 @@ impl Machine {
             return outside(tally, ours.wrapping_sub(sys::REFUSED));
         }
         let original = self.original.read(addr) as u32;
+        self.seen = Some((original, ours));
         tally.accesses[self.kind][(addr >> 14) as usize] += 1;
         if let Some(timer) = &mut self.timer {
             if timer.on_clock(addr) {
@@ -522,18 +525,18 @@ impl Machine {
         }
         if room != theirs {
             tally.listed(rule_of(left));
+            tally.saves_apart = Some((hex(&theirs[theirs.len() - 21..]), hex(&room[room.len() - 21..])));
         }
         Ok(())
     }
 
     /// What the original answers to an access, for the vectors. The library must answer so too.
     pub fn answer(&mut self, tally: &mut Tally, image: &[u8], access: Access) -> Result<String, Found> {
-        let mut line = access.to_string();
-        if let Access::Read(addr) = access {
-            line += &format!(" {:02X}", self.ours.read(image, addr));
-        }
         self.step(tally, image, access)?;
-        Ok(line)
+        Ok(match self.seen {
+            Some((original, _)) => format!("{} {:02X}", access, original),
+            None => access.to_string(),
+        })
     }
 
     pub fn ram(&self) -> &[u8] {

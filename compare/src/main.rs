@@ -20,6 +20,7 @@ use play::Player;
 use recipe::{Base, Image, Save};
 use std::fs::File;
 use std::io::Write;
+use std::ops::Range;
 use std::os::unix::io::{AsRawFd, FromRawFd};
 use std::panic::{catch_unwind, AssertUnwindSafe};
 use std::path::{Path, PathBuf};
@@ -187,9 +188,9 @@ impl Bench {
         self.say(&format!("all {} images that are not drawn, {} accesses", n, self.tally.all_accesses()));
     }
 
-    fn drawn(&mut self, seed: u64, images: u64, accesses: u32) {
+    fn drawn(&mut self, seed: u64, images: Range<u64>, accesses: u32) {
         let mut bytes = Vec::new();
-        for i in 0..images {
+        for i in images {
             let mut draw = Draw::new(seed.wrapping_add(i.wrapping_mul(0x9E37_79B9)));
             let (image, save, wall, later) = one(&mut draw);
             image.build(&self.base, &mut bytes);
@@ -271,11 +272,21 @@ fn replay(bench: &mut Bench, folder: &Path) {
             Record::Clocks(n) => Access::Clocks(n),
         })
         .collect();
-    let mut kept = Vec::new();
-    let answer = bench.play(&case, true, &mut kept, &mut |_, n| accesses.get(n).copied());
-    kept.iter().for_each(|access| bench.print(&format!("{}\n", access)));
+    let (mut kept, mut lines) = (Vec::new(), String::new());
+    let answer = bench.play(&case, true, &mut kept, &mut |machine, n| {
+        if let Some((original, ours)) = machine.seen {
+            lines += &format!("  original {:02X}, library {:02X}\n", original, ours);
+        }
+        let access = accesses.get(n).copied();
+        access.iter().for_each(|access| lines += &format!("{}\n", access));
+        access
+    });
+    bench.print(&lines);
     match answer {
         Ok(()) => {
+            if let Some((original, ours)) = bench.tally.saves_apart.clone() {
+                bench.print(&format!("saves: original {}, library {}\n", original, ours));
+            }
             let rules: Vec<&str> =
                 tally::RULES.iter().zip(&bench.tally.rules).filter(|(_, n)| **n > 0).map(|(r, _)| r.words()).collect();
             bench.print(&format!("no unlisted difference; listed: {:?}\n", rules));
@@ -329,8 +340,11 @@ fn main() {
             let (images, accesses) = (number("--images", 100_000), number("--accesses", 2_000) as u32);
             bench.say(&format!("seed {}, {} drawn images, {} accesses for each that is taken", seed, images, accesses));
             bench.check_clocks();
+            // Some drawn ones first: they find most of what can be wrong in seconds.
+            let some = images.min(2_000);
+            bench.drawn(seed, 0..some, accesses);
             bench.sweep(seed);
-            bench.drawn(seed, images, accesses);
+            bench.drawn(seed, some..images, accesses);
             let table = bench.tally.table();
             bench.say("no unlisted difference");
             bench.print(&table);

@@ -79,6 +79,8 @@ pub struct Tally {
     pub saves_read: u64,
     pub saves_written: u64,
     pub outside_reads: u64,
+    /// The last clock blocks that were not the same, in the original's save and the library's.
+    pub saves_apart: Option<(String, String)>,
     pub rules: [u64; 16],
 }
 
