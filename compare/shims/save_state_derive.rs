@@ -6,7 +6,9 @@ use proc_macro::{Delimiter, Spacing, TokenStream, TokenTree};
 fn fields(body: TokenStream) -> Vec<String> {
     let tokens: Vec<TokenTree> = body.into_iter().collect();
     let named = |pair: &[TokenTree]| match pair {
-        [TokenTree::Ident(name), TokenTree::Punct(p)] if p.as_char() == ':' && p.spacing() == Spacing::Alone => Some(name.to_string()),
+        [TokenTree::Ident(name), TokenTree::Punct(p)] if p.as_char() == ':' && p.spacing() == Spacing::Alone => {
+            Some(name.to_string())
+        }
         _ => None,
     };
     tokens.windows(2).filter_map(named).collect()

@@ -3,12 +3,11 @@
 use crate::draw::Draw;
 use crate::recipe::{Image, Save, PLACES, RAM_SIZES};
 
-pub const TYPES: [u8; 24] = [
-    0, 1, 2, 3, 5, 6, 8, 9, 0x0B, 0x0C, 0x0D, 0x0F, 0x10, 0x11, 0x12, 0x13, 0x19, 0x1A, 0x1B, 0x1C, 0x1D, 0x1E, 0x20, 0x22,
-];
+pub const TYPES: [u8; 24] =
+    [0, 1, 2, 3, 5, 6, 8, 9, 0x0B, 0x0C, 0x0D, 0x0F, 0x10, 0x11, 0x12, 0x13, 0x19, 0x1A, 0x1B, 0x1C, 0x1D, 0x1E, 0x20, 0x22];
 const DRAWN: [u8; 30] = [
-    0, 8, 9, 1, 2, 3, 1, 2, 3, 5, 6, 6, 0x0F, 0x10, 0x0F, 0x10, 0x0F, 0x10, 0x11, 0x12, 0x13, 0x13, 0x19, 0x1A, 0x1B, 0x1C, 0x1D, 0x1E,
-    0x1B, 0x1E,
+    0, 8, 9, 1, 2, 3, 1, 2, 3, 5, 6, 6, 0x0F, 0x10, 0x0F, 0x10, 0x0F, 0x10, 0x11, 0x12, 0x13, 0x13, 0x19, 0x1A, 0x1B, 0x1C, 0x1D,
+    0x1E, 0x1B, 0x1E,
 ];
 
 fn has_ram(ty: u8) -> bool {
@@ -38,7 +37,15 @@ fn plain(draw: &mut Draw, len: usize, ty: u8, rom: u8, ram: u8) -> Image {
     let mut title = [0; 16];
     title[..8].copy_from_slice(b"IMFELKUZ");
     title[15] = draw.byte();
-    Image { len, from: draw.below(PLACES as u32) as usize, logos: 1, title, codes: [ty, rom, ram], mended: true, changes: Vec::new() }
+    Image {
+        len,
+        from: draw.below(PLACES as u32) as usize,
+        logos: 1,
+        title,
+        codes: [ty, rom, ram],
+        mended: true,
+        changes: Vec::new(),
+    }
 }
 
 /// The images that are not drawn, and how many accesses each gets where it is taken.
@@ -129,7 +136,9 @@ fn title(draw: &mut Draw) -> [u8; 16] {
         1..=3 => {
             let mut at = 0;
             while at < n {
-                let letter = draw.of(&["A", "z", "é", "Я", "ゲ", "ー", "\u{FFFD}", "𝄞", "\u{7F}", "\u{80}", "\u{7FF}", "\u{800}"]).as_bytes();
+                let letter = draw
+                    .of(&["A", "z", "é", "Я", "ゲ", "ー", "\u{FFFD}", "𝄞", "\u{7F}", "\u{80}", "\u{7FF}", "\u{800}"])
+                    .as_bytes();
                 for byte in letter.iter().take(16 - at) {
                     title[at] = *byte;
                     at += 1;
@@ -137,7 +146,8 @@ fn title(draw: &mut Draw) -> [u8; 16] {
             }
             // And sometimes one byte of it is another.
             if draw.one_in(4) {
-                title[draw.below(16) as usize] = draw.of(&[0x80, 0xBF, 0xC0, 0xC1, 0xE0, 0xED, 0xF0, 0xF4, 0xF5, 0xFF, 0xA0, 0x9F, 0x90]);
+                title[draw.below(16) as usize] =
+                    draw.of(&[0x80, 0xBF, 0xC0, 0xC1, 0xE0, 0xED, 0xF0, 0xF4, 0xF5, 0xFF, 0xA0, 0x9F, 0x90]);
             }
         }
         _ => title.iter_mut().take(n).for_each(|b| *b = 0x20 + draw.below(0x5F) as u8),

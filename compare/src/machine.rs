@@ -345,7 +345,9 @@ impl Machine {
                 self.ours.ram.copy_from_slice(&save[..area]);
                 Ok(false)
             }
-            _ => found(format!("a save of {} bytes for an area of {}: the library {}, clock {}", save.len(), area, answer, clock)),
+            _ => {
+                found(format!("a save of {} bytes for an area of {}: the library {}, clock {}", save.len(), area, answer, clock))
+            }
         }
     }
 
@@ -480,7 +482,13 @@ impl Machine {
             if left != 0 {
                 let (step, lazy) = (&timer.stepwise, &timer.lazy);
                 let expected = (step.running, (step.sub, step.time, step.latched));
-                let known = Lazy { registers: fields.clock, latched: fields.latched, sub: fields.sub as u64, last: fields.last, time: fields.time };
+                let known = Lazy {
+                    registers: fields.clock,
+                    latched: fields.latched,
+                    sub: fields.sub as u64,
+                    last: fields.last,
+                    time: fields.time,
+                };
                 if ours != expected || self.ours.registers(52) != step.frozen || known != *lazy {
                     return found(format!(
                         "the clock at the end: the original {:?}, expected {:?}; the library {:?}, expected {:?}",
@@ -506,7 +514,9 @@ impl Machine {
         let theirs = match (answer, theirs) {
             (18, None) => return Ok(()),
             (0, Some(theirs)) => theirs,
-            (answer, theirs) => return found(format!("saving: the library {}, the original {:?}", answer, theirs.map(|s| s.len()))),
+            (answer, theirs) => {
+                return found(format!("saving: the library {}, the original {:?}", answer, theirs.map(|s| s.len())))
+            }
         };
         tally.saves_written += 1;
         room.truncate(size as usize);
@@ -514,7 +524,13 @@ impl Machine {
             if room != theirs {
                 let area = self.ours.ram.len();
                 let tail = |save: &[u8]| hex(&save[area.min(save.len())..]);
-                return found(format!("saves of {} and {} bytes: .. {} and .. {}", theirs.len(), size, tail(&theirs), tail(&room)));
+                return found(format!(
+                    "saves of {} and {} bytes: .. {} and .. {}",
+                    theirs.len(),
+                    size,
+                    tail(&theirs),
+                    tail(&room)
+                ));
             }
             return Ok(());
         }

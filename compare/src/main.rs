@@ -160,7 +160,15 @@ impl Bench {
         self.say(&format!("the smallest: {} accesses: {}", kept.len(), what));
         let at = |i: usize| case.image.get(i).copied().unwrap_or(0);
         let mut text = format!("{}\n{}\n", name, what);
-        text += &format!("image of {:X} bytes, type {:02X}, codes {:02X} {:02X}; wall {}, {}", case.image.len(), at(0x147), at(0x148), at(0x149), case.wall, case.later);
+        text += &format!(
+            "image of {:X} bytes, type {:02X}, codes {:02X} {:02X}; wall {}, {}",
+            case.image.len(),
+            at(0x147),
+            at(0x148),
+            at(0x149),
+            case.wall,
+            case.later
+        );
         text += &format!("; {}\n", if case.windows { "through windows" } else { "through calls" });
         kept.iter().for_each(|a| text += &format!("{}\n", a));
         let folder = self.out.join("found");
@@ -197,7 +205,8 @@ impl Bench {
             let built = save.as_ref().map(|save| save.build(&self.base));
             let n = accesses / 2 + draw.below(accesses + 1);
             let case = Case { image: std::mem::take(&mut bytes), save: built, wall, later, windows: i % 2 == 1 };
-            let name = format!("drawn image {} of seed {}: {} {}", i, seed, image.line(), save.map_or(String::new(), |s| s.line()));
+            let name =
+                format!("drawn image {} of seed {}: {} {}", i, seed, image.line(), save.map_or(String::new(), |s| s.line()));
             self.case(&name, &case, draw, n);
             bytes = case.image;
             if i % 5_000 == 4_999 {
@@ -211,7 +220,8 @@ impl Bench {
         let mut draw = Draw::new(1);
         let mut image = Vec::new();
         let (mut recipe, _, _, _) = one(&mut draw);
-        recipe = Image { len: 0x8000, codes: [0x10, 0, 2], title: [0; 16], logos: 1, mended: true, changes: Vec::new(), ..recipe };
+        recipe =
+            Image { len: 0x8000, codes: [0x10, 0, 2], title: [0; 16], logos: 1, mended: true, changes: Vec::new(), ..recipe };
         recipe.build(&self.base, &mut image);
         let mount = |files: &Files| match original::mount(files, &image, true, None, 77) {
             original::Mounted::Taken(original) => original,

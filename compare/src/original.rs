@@ -241,14 +241,7 @@ impl Original {
                 ram_bank: b[7],
                 register: b[8],
                 sub: u32::from_le_bytes(b[9..13].try_into().unwrap()),
-                clock: Registers {
-                    second: b[13],
-                    minute: b[14],
-                    hour: b[15],
-                    day: word(16),
-                    halt: flag(18),
-                    carry: flag(19),
-                },
+                clock: Registers { second: b[13], minute: b[14], hour: b[15], day: word(16), halt: flag(18), carry: flag(19) },
                 last: long(20),
                 latched: flag(28),
                 time: long(29),
@@ -256,9 +249,7 @@ impl Original {
                 mode: flag(38),
                 ..Fields::default()
             },
-            0x19..=0x1E => {
-                Fields { rom_banks: word(0), enabled: flag(4), ram_bank: b[5], bank: word(6), ..Fields::default() }
-            }
+            0x19..=0x1E => Fields { rom_banks: word(0), enabled: flag(4), ram_bank: b[5], bank: word(6), ..Fields::default() },
             _ => Fields { rom_banks: 2, ..Fields::default() },
         }
     }

@@ -7,16 +7,16 @@ use std::collections::VecDeque;
 use Access::{Clocks, Read, Write};
 
 const REGISTERS: [u16; 18] = [
-    0x0000, 0x00FF, 0x0100, 0x1FFF, 0x2000, 0x20FF, 0x2100, 0x2FFF, 0x3000, 0x30FF, 0x3100, 0x3FFF, 0x4000, 0x4FFF, 0x5FFF, 0x6000,
-    0x6FFF, 0x7FFF,
+    0x0000, 0x00FF, 0x0100, 0x1FFF, 0x2000, 0x20FF, 0x2100, 0x2FFF, 0x3000, 0x30FF, 0x3100, 0x3FFF, 0x4000, 0x4FFF, 0x5FFF,
+    0x6000, 0x6FFF, 0x7FFF,
 ];
 const EDGES: [u16; 18] = [
-    0x0000, 0x0001, 0x0104, 0x3FFE, 0x3FFF, 0x4000, 0x4001, 0x4104, 0x7FFE, 0x7FFF, 0xA000, 0xA001, 0xA1FF, 0xA200, 0xA7FF, 0xA800,
-    0xBFFE, 0xBFFF,
+    0x0000, 0x0001, 0x0104, 0x3FFE, 0x3FFF, 0x4000, 0x4001, 0x4104, 0x7FFE, 0x7FFF, 0xA000, 0xA001, 0xA1FF, 0xA200, 0xA7FF,
+    0xA800, 0xBFFE, 0xBFFF,
 ];
 const BYTES: [u8; 24] = [
-    0x00, 0x01, 0x02, 0x03, 0x04, 0x08, 0x09, 0x0A, 0x0B, 0x0C, 0x0F, 0x10, 0x11, 0x12, 0x1A, 0x1F, 0x20, 0x30, 0x3F, 0x40, 0x60, 0x7F,
-    0x80, 0xFF,
+    0x00, 0x01, 0x02, 0x03, 0x04, 0x08, 0x09, 0x0A, 0x0B, 0x0C, 0x0F, 0x10, 0x11, 0x12, 0x1A, 0x1F, 0x20, 0x30, 0x3F, 0x40, 0x60,
+    0x7F, 0x80, 0xFF,
 ];
 const STRANGE: [u16; 8] = [0x8000, 0x8001, 0x9FFF, 0xC000, 0xC001, 0xDFFF, 0xFEFF, 0xFFFF];
 
@@ -136,7 +136,9 @@ impl Player {
             }
             6 => {
                 // All registers before the last second of something.
-                for (register, byte) in [(2, 23), (1, 59), (0, 59 - self.draw.below(3) as u8), (3, 0xFF), (4, self.draw.below(2) as u8)] {
+                for (register, byte) in
+                    [(2, 23), (1, 59), (0, 59 - self.draw.below(3) as u8), (3, 0xFF), (4, self.draw.below(2) as u8)]
+                {
                     if !self.draw.one_in(6) {
                         self.next.push_back(Write(0x4000, 8 + register));
                         self.next.push_back(Write(0xA000, byte));
@@ -166,7 +168,15 @@ impl Player {
                     };
                     return Clocks(seconds * second + drawn);
                 }
-                self.draw.of(&[Clocks(left), Clocks(left), Clocks(left), Clocks(left - 1), Clocks(second), Clocks(drawn), Clocks(second - 1)])
+                self.draw.of(&[
+                    Clocks(left),
+                    Clocks(left),
+                    Clocks(left),
+                    Clocks(left - 1),
+                    Clocks(second),
+                    Clocks(drawn),
+                    Clocks(second - 1),
+                ])
             }
         }
     }
@@ -189,7 +199,9 @@ impl Player {
                 Write(addr, byte)
             }
             37..=56 => self.bank(machine),
-            57..=60 => Write(self.draw.of(&[0x0000, 0x0000, 0x1EFF, 0x3E00]), self.draw.of(&[0x0A, 0x0A, 0x0A, 0x1A, 0x0B, 0x00])),
+            57..=60 => {
+                Write(self.draw.of(&[0x0000, 0x0000, 0x1EFF, 0x3E00]), self.draw.of(&[0x0A, 0x0A, 0x0A, 0x1A, 0x0B, 0x00]))
+            }
             61 => Clocks(1 + self.draw.below(48)),
             62 => Read(self.draw.of(&STRANGE)),
             _ => Write(self.draw.of(&STRANGE), self.draw.byte()),

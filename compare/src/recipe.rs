@@ -90,7 +90,8 @@ impl Image {
 
     pub fn read(line: &str) -> Image {
         let words: Vec<&str> = line.split(' ').collect();
-        let mut image = Image { len: number(words[1]), from: number(words[2]), logos: number(words[3]) as u8, ..Image::default() };
+        let mut image =
+            Image { len: number(words[1]), from: number(words[2]), logos: number(words[3]) as u8, ..Image::default() };
         image.title.copy_from_slice(&bytes(words[4]));
         image.codes.copy_from_slice(&bytes(words[5]));
         image.mended = words[6] == "1";

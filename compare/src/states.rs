@@ -102,14 +102,18 @@ pub fn all(say: &mut dyn FnMut(&str)) -> Result<String, String> {
                             states += 1;
 
                             // Sub-second and time.
-                            let moved = after[9..13] == state[40..44] && after[29..37] == state[32..40] && (halt || state[32..40] == now);
+                            let moved =
+                                after[9..13] == state[40..44] && after[29..37] == state[32..40] && (halt || state[32..40] == now);
                             let at = if ours == theirs {
                                 0
                             } else {
                                 let (listed, by_carry, by_sixty) = as_listed(&before, &ours);
                                 let at = by_carry as usize | (by_sixty as usize) << 1;
                                 if listed != theirs || at == 0 {
-                                    return Err(format!("{:?}: the original {:?}, the library {:?}: on no list\n", before, theirs, ours));
+                                    return Err(format!(
+                                        "{:?}: the original {:?}, the library {:?}: on no list\n",
+                                        before, theirs, ours
+                                    ));
                                 }
                                 at
                             };

@@ -54,7 +54,12 @@ fn replay<B: Bus>(base: &Base) -> usize {
                     "R" => assert_eq!(cart.read(addr()), Ok(number(words[2]) as u8), "{}", place()),
                     "W" => assert_eq!(cart.write(addr(), number(words[2]) as u8), Ok(()), "{}", place()),
                     "C" => assert_eq!(cart.advance(long(words[1])), Ok(()), "{}", place()),
-                    "A" => assert_eq!((number(words[1]), words[2]), (cart.ram().len(), &*format!("{:X}", sum(cart.ram()))), "{}", place()),
+                    "A" => assert_eq!(
+                        (number(words[1]), words[2]),
+                        (cart.ram().len(), &*format!("{:X}", sum(cart.ram()))),
+                        "{}",
+                        place()
+                    ),
                     _ => {
                         let mut room = vec![0; number(words[2])];
                         assert_eq!(cart.save(&mut room, long(words[1])), Ok(room.len()), "{}", place());
