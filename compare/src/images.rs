@@ -77,19 +77,6 @@ pub fn sweep(draw: &mut Draw) -> Vec<(Image, u32)> {
             }
         }
     }
-    // Every byte of the header changed to every value, with the checksum mended and not.
-    for at in 0x100..0x150 {
-        let ty = draw.of(&DRAWN);
-        let ram = ram_code(draw, ty);
-        for byte in 0..=255 {
-            for mended in [false, true] {
-                let mut image = plain(draw, 0x8000, ty, 0, ram);
-                image.mended = mended;
-                image.changes.push((at, byte));
-                all.push((image, 8));
-            }
-        }
-    }
     // Multicarts, and what is nearly one.
     for ty in 1..=3 {
         for len in [0xFBFFF, 0xFC000, 0xFC001, 0xFFFFF, 0x100000, 0x100001, 0x104000, 0x80000, 0x200000] {
@@ -107,6 +94,19 @@ pub fn sweep(draw: &mut Draw) -> Vec<(Image, u32)> {
             image.logos = 0xF;
             image.changes.push((quarter * 0x40000 + 0x104 + at, 0x55));
             all.push((image, 40));
+        }
+    }
+    // Every byte of the header changed to every value, with the checksum mended and not.
+    for at in 0x100..0x150 {
+        let ty = draw.of(&DRAWN);
+        let ram = ram_code(draw, ty);
+        for byte in 0..=255 {
+            for mended in [false, true] {
+                let mut image = plain(draw, 0x8000, ty, 0, ram);
+                image.mended = mended;
+                image.changes.push((at, byte));
+                all.push((image, 8));
+            }
         }
     }
     // Short images, the shortest that is taken among them.
@@ -129,11 +129,11 @@ pub fn sweep(draw: &mut Draw) -> Vec<(Image, u32)> {
 fn title(draw: &mut Draw) -> [u8; 16] {
     let mut title = [0; 16];
     let n = draw.below(17) as usize;
-    match draw.below(8) {
+    match draw.below(24) {
         // Any bytes at all.
         0 => title.iter_mut().for_each(|b| *b = draw.byte()),
         // Letters of one to four bytes, which the end may cut.
-        1..=3 => {
+        1..=6 => {
             let mut at = 0;
             while at < n {
                 let letter = draw

@@ -384,6 +384,9 @@ impl Machine {
                 self.original.clocks(n as u64);
                 if let Some(timer) = &mut self.timer {
                     timer.due += timer.stepwise.completed(n as u64);
+                    if timer.left == 0 {
+                        tally.inside_seconds += timer.stepwise.completed(n as u64);
+                    }
                     timer.stepwise.clocks(n as u64);
                     timer.lazy.clocks(n as u64);
                 }
@@ -424,6 +427,7 @@ impl Machine {
                     }
                     return Ok(());
                 }
+                tally.inside_reads += 1;
             }
         }
         if ours != original {

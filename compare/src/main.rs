@@ -61,6 +61,11 @@ impl Bench {
         self.screen.write_all(text.as_bytes()).unwrap();
     }
 
+    fn stop(&self, code: i32) -> ! {
+        self.files.remove();
+        std::process::exit(code)
+    }
+
     // Plays accesses: those that `next` gives, each kept, until it gives none. Where something is found, it is after the last one kept.
     fn play(
         &mut self,
@@ -120,7 +125,7 @@ impl Bench {
         let mut what = match self.again(&case, &kept) {
             None => {
                 self.say("the same accesses did not show it again");
-                std::process::exit(1);
+                self.stop(1);
             }
             Some((n, what)) => {
                 kept.truncate(n);
@@ -175,7 +180,7 @@ impl Bench {
         keep(&folder, &case, &kept, &text);
         self.print(&text);
         self.print(&format!("kept in {}: `make replay DIR=..` where it fits, `compare replay ..` always\n", folder.display()));
-        std::process::exit(1);
+        self.stop(1);
     }
 
     fn sweep(&mut self, seed: u64) {
@@ -303,7 +308,7 @@ fn replay(bench: &mut Bench, folder: &Path) {
         }
         Err(found) => {
             bench.print(&format!("{}\n", found.what));
-            std::process::exit(1);
+            bench.stop(1);
         }
     }
 }
@@ -342,7 +347,7 @@ fn main() {
             let text = states::all(&mut |line| bench.say(line));
             let bad = text.is_err();
             bench.print(&text.unwrap_or_else(|why| why));
-            std::process::exit(bad as i32);
+            bench.stop(bad as i32);
         }
         Some("vectors") => vectors::write(&mut bench, seed, Path::new(option("--to").expect("--to FILE"))),
         Some("replay") => replay(&mut bench, Path::new(&words[1])),
@@ -360,5 +365,5 @@ fn main() {
             bench.print(&table);
         }
     }
-    let _ = std::fs::remove_dir_all(&files);
+    bench.stop(0);
 }

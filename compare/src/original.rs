@@ -62,6 +62,10 @@ impl Files {
         Files { folder: folder.to_path_buf() }
     }
 
+    pub fn remove(&self) {
+        let _ = std::fs::remove_dir_all(&self.folder);
+    }
+
     fn image(&self) -> PathBuf {
         self.folder.join("image.gb")
     }

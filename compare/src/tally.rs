@@ -78,6 +78,9 @@ pub struct Tally {
     pub ram_bytes: u64,
     pub saves_read: u64,
     pub saves_written: u64,
+    /// Clock reads in the domain, and the seconds that passed there.
+    pub inside_reads: u64,
+    pub inside_seconds: u64,
     pub outside_reads: u64,
     /// The last clock blocks that were not the same, in the original's save and the library's.
     pub saves_apart: Option<(String, String)>,
@@ -137,6 +140,7 @@ impl Tally {
             row.iter().for_each(|n| write!(o, " {:>15}", n).unwrap());
             writeln!(o).unwrap();
         }
+        writeln!(o, "clock reads in the domain: {}, over {} seconds", self.inside_reads, self.inside_seconds).unwrap();
         writeln!(o, "clock reads outside the domain, each as its rule has it: {}", self.outside_reads).unwrap();
         writeln!(o, "differences by rule of docs/DIFFERENCES.md:").unwrap();
         for (rule, count) in RULES.iter().zip(&self.rules) {
