@@ -293,7 +293,11 @@ impl Machine {
     fn load(&mut self, tally: &mut Tally, save: &[u8], wall: u64, ram_size: usize) -> Result<bool, Found> {
         tally.saves_read += 1;
         let mut clock = 2;
+        let before = self.ours.state;
         let answer = sys::save_in(&mut self.ours.state, &mut self.ours.ram, save, wall, &mut clock);
+        if answer != 0 && (self.ours.state != before || self.ours.ram.iter().any(|b| *b != 0)) {
+            return found(format!("a save refused with {} has changed something", answer));
+        }
         if let Some(windows) = &mut self.ours.windows {
             sys::windows(&self.ours.state, windows);
         }
