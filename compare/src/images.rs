@@ -15,7 +15,7 @@ fn has_ram(ty: u8) -> bool {
 }
 
 // The largest length of a mapper: 0x8000 shifted by so much.
-fn largest(ty: u8) -> u32 {
+fn largest_shift(ty: u8) -> u32 {
     match ty {
         0 | 8 | 9 => 0,
         1..=3 => 6,
@@ -126,6 +126,18 @@ pub fn sweep(draw: &mut Draw) -> Vec<(Image, u32)> {
     all
 }
 
+/// An image of each mapper with as many banks and as much RAM as it can have, and two multicarts.
+pub fn largest_of_each(draw: &mut Draw) -> Vec<Image> {
+    let largest = [(9, 2), (3, 3), (6, 4), (0x13, 3), (0x10, 3), (0x1E, 4)];
+    let mut all: Vec<Image> =
+        largest.iter().map(|(ty, ram)| plain(draw, 0x8000 << largest_shift(*ty), *ty, largest_shift(*ty) as u8, *ram)).collect();
+    for ty in [1, 2] {
+        let ram = ram_code(draw, ty);
+        all.push(Image { logos: 0xF, ..plain(draw, 0x100000, ty, 5, ram) });
+    }
+    all
+}
+
 fn title(draw: &mut Draw) -> [u8; 16] {
     let mut title = [0; 16];
     let n = draw.below(17) as usize;
@@ -162,7 +174,7 @@ pub fn drawn(draw: &mut Draw) -> Image {
         2..=4 => draw.of(&TYPES),
         _ => draw.of(&DRAWN),
     };
-    let most = largest(ty);
+    let most = largest_shift(ty);
     let shift = match draw.below(100) {
         0..=84 => draw.below(most.min(3) + 1),
         85..=97 => draw.below(most + 1),

@@ -46,9 +46,17 @@ impl Player {
         Player { draw, permitted, next }
     }
 
-    /// One that leaves the domain nowhere.
+    /// One that leaves the domain nowhere, and begins with both parts of every bank register, each mode, and what they then show.
     pub fn within(draw: Draw, machine: &Machine) -> Player {
-        Player { permitted: 0, ..Player::new(draw, machine) }
+        let mut player = Player { permitted: 0, ..Player::new(draw, machine) };
+        let ends = [Read(0x0000), Read(0x4000), Read(0x7FFE), Read(0xA000)];
+        for (addr, byte) in
+            [(0x2100, 0x10), (0x2100, 0x00), (0x3100, 0x01), (0x2100, 0x12), (0x4000, 0x02), (0x6000, 0x01), (0x6000, 0x00)]
+        {
+            player.next.push_back(Write(addr, byte));
+            player.next.extend(ends);
+        }
+        player
     }
 
     fn byte(&mut self) -> u8 {

@@ -24,19 +24,23 @@ pub fn write(bench: &mut Bench, seed: u64, to: &Path) {
     let mut text = HEAD.replace("SEED", &seed.to_string());
     let mut bytes = Vec::new();
     let (mut images, mut taken, mut lines) = (0, 0, 0);
-    // Some that are not drawn, then drawn ones.
+    // The largest of each mapper first, then some others that are not drawn, then drawn ones.
     let mut fixed: Vec<_> = images::sweep(&mut Draw::new(seed)).into_iter().step_by(233).map(|(image, _)| image).collect();
+    let largest = images::largest_of_each(&mut Draw::new(seed));
+    let kept = fixed.len();
+    fixed.extend(largest);
     let mut i = 0;
     while images < 500 {
         let mut draw = Draw::new(seed.wrapping_mul(31).wrapping_add(i));
         i += 1;
         let (mut image, mut save, wall, later) = crate::one(&mut draw);
+        let first = fixed.len() > kept;
         if let Some(other) = fixed.pop() {
             image = other;
             save = None;
         }
         // Large ones make the test slow: some are enough.
-        if image.len > 0x100000 && images % 40 != 7 {
+        if image.len > 0x100000 && !first && images % 40 != 7 {
             continue;
         }
         image.build(&bench.base, &mut bytes);
@@ -65,7 +69,7 @@ pub fn write(bench: &mut Bench, seed: u64, to: &Path) {
             let mut player = Player::within(draw, &machine);
             let mut count = 0;
             let played: Result<(), Found> = (|| loop {
-                let access = if count < 40 { Some(player.next(&machine)) } else { player.last(&machine) };
+                let access = if count < 60 { Some(player.next(&machine)) } else { player.last(&machine) };
                 let access = match access {
                     Some(access) => access,
                     None => return Ok(()),
