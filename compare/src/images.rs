@@ -126,7 +126,8 @@ pub fn sweep(draw: &mut Draw) -> Vec<(Image, u32)> {
     all
 }
 
-/// An image of each mapper with as many banks and as much RAM as it can have, and two multicarts.
+/// An image of each mapper with as many banks and as much RAM as it can have, two multicarts and what is nearly one, and the last
+/// quotients that are mended and not.
 pub fn largest_of_each(draw: &mut Draw) -> Vec<Image> {
     let largest = [(9, 2), (3, 3), (6, 4), (0x13, 3), (0x10, 3), (0x1E, 4)];
     let mut all: Vec<Image> =
@@ -135,6 +136,9 @@ pub fn largest_of_each(draw: &mut Draw) -> Vec<Image> {
         let ram = ram_code(draw, ty);
         all.push(Image { logos: 0xF, ..plain(draw, 0x100000, ty, 5, ram) });
     }
+    all.push(Image { logos: 7, ..plain(draw, 0x100000, 1, 5, 0) });
+    all.push(plain(draw, 0x400000, 0x19, 0, 0));
+    all.push(plain(draw, 0x800000, 0x19, 0, 0));
     all
 }
 
