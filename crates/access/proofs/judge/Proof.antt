@@ -3,7 +3,6 @@ use borrow.Author.Needs.{needs}
 use Rattle.access.proofs.judge.Statement.{statement}
 use Rattle.access.proofs.judge.Tie as tie
 use mathlib.Core.Path.{ap, _∙_}
-use Prim.Native.Nat.{ℕ}
 use mathlib.Core.Bool.{Bool}
 use Rattle.access.specs.Verdict.{noesBy, verdictBy, noes, verdictOf}
 

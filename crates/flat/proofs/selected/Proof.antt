@@ -4,7 +4,6 @@ use Rattle.flat.proofs.selected.Statement.{statement}
 use Rattle.flat.proofs.selected.Tie as tie
 use mathlib.Core.Path.{sym, ap, _∙_}
 use mathlib.Core.Bool.{Bool}
-use denote.Ref.{now}
 use Rattle.facts.specs.Choice.{pick}
 use Rattle.mbc3.specs.Registers as mbc3
 use Rattle.mapper.specs.declared.Mapper.the-variants.{Mbc3}
