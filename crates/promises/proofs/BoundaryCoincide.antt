@@ -3,6 +3,10 @@
 use mathlib.Core.List.{List}
 use Prim.Native.Nat.{ℕ}
 use Rattle.cartridge.specs.declared.Cartridge.{Cartridge}
+use Rattle.access.specs.declared.BusRefusal.the-variants.{Unfit}
+use Rattle.bus.specs.Bus as reading
+use Rattle.bus.specs.declared.ReadAnswer.the-variants as read
+use Rattle.states.specs.OnState.{onState}
 use Rattle.states.specs.Layout.{encodeOf}
 use Rattle.states.specs.Reading.{decodeOf}
 use Rattle.windows.specs.Windows as windows
@@ -20,6 +24,12 @@ encode-coincides c = any-two (encodeOf c)
 
 pub decode-coincides : (s : List ℕ) → Coincide (decodeOf s)
 decode-coincides s = any-two (decodeOf s)
+
+-- `flat::read`, whose definition is the bus's read on what the bytes decode to
+pub flat-read-coincides : (s rom ram : List ℕ) (addr : ℕ)
+    → Coincide (onState (λ c. reading.readOf c rom ram addr) (read.Refuse Unfit) (decodeOf s))
+flat-read-coincides s rom ram addr =
+    any-two (onState (λ c. reading.readOf c rom ram addr) (read.Refuse Unfit) (decodeOf s))
 
 -- `windows::of`, `read`, and `write`: the answer, and the area
 pub windows-of-coincides : (c : Cartridge) → Coincide (windows.askOf c)
