@@ -18,3 +18,4 @@ pub mod Windows
 pub mod Original
 pub mod Outside
 pub mod Parting
+pub mod SaveRead
