@@ -1,0 +1,1 @@
+//! Builds the crates behind it, and is nothing itself.
