@@ -1,19 +1,23 @@
-.PHONY: test replay kit player player-library player-test valgrind bench compare compare-states compare-vectors original x86-64
+.PHONY: test replay kit player player-library player-test here-test valgrind bench compare compare-states compare-vectors original x86-64
 
 # The folder with `cart.rom` and `cart.trace` that `make replay` runs on.
 DIR ?= crates/replay/data
 
+# The library is for x86-64. With HERE=yes it is compiled for this machine's own processor, and so is what links it.
+export HERE
+OTHER := $(shell [ "$(HERE)" ] && [ "$$(uname -m)" != x86_64 ] && echo -here)
+
 # The folder of libplayer.a. Where PLAYER_LIB names one, that library is taken as it stands.
-LIBRARY := $(if $(PLAYER_LIB),$(abspath $(PLAYER_LIB)),$(CURDIR)/target/staticlib)
-PLAYER := $(CURDIR)/target/player
+LIBRARY := $(if $(PLAYER_LIB),$(abspath $(PLAYER_LIB)),$(CURDIR)/target/staticlib$(OTHER))
+PLAYER := $(CURDIR)/target/player$(OTHER)
 CARGO = cd player/rust && IMFELKUZ_LIB="$(LIBRARY)" CARGO_TARGET_DIR="$(PLAYER)/cargo" ../../tools/x86-64 cargo
-BUILT = $(PLAYER)/cargo/x86_64-unknown-linux-gnu
+BUILT = $(PLAYER)/cargo/$(shell HERE=$(HERE) tools/x86-64 triple)
 
 # What links the library is tried first. Then every crate is proved from nothing, every wrong program refused, every program run. The
 # last line is 'N passed, M failed'.
 # A program's arrays stand on the stack, and images of 8 MiB need more than the usual limit. Four provers at a time keep two cores
 # busy: the wrong programs go in rounds that wait for their slowest.
-test: kit player-test
+test: kit player-test here-test
 	@ulimit -S -s 65536 2>/dev/null || ulimit -S -s 16384 2>/dev/null || { \
 	  echo "The stack cannot be raised to 16 MiB: 'ulimit -H -s' says $$(ulimit -H -s) KiB. The programs large_vectors, bus_vectors and save_vectors need more than 8192."; \
 	  exit 1; }; \
@@ -40,7 +44,7 @@ ifeq ($(PLAYER_LIB),)
 player-library: kit
 	@mkdir -p target
 	@echo "Proving and building libplayer.a: minutes the first time, then at once." >&2
-	@rt staticlib player >target/player.log 2>&1 || { cat target/player.log; exit 1; }
+	@$(if $(OTHER),tools/library-here "$(LIBRARY)",rt staticlib player) >target/player.log 2>&1 || { cat target/player.log; exit 1; }
 endif
 
 # The header in C and C++, the crate's tests, and its example on the bundled trace.
@@ -51,14 +55,18 @@ player-test: x86-64 player-library
 	@tools/x86-64 run "$(BUILT)/debug/examples/play" crates/replay/data/cart.rom crates/replay/data/cart.trace "$(PLAYER)/cart.sav" \
 	  >"$(PLAYER)/play.txt" && cmp "$(PLAYER)/play.txt" crates/replay/stdout && echo "play: the lines of crates/replay/stdout"
 
-# The C test and the tests of lengths under valgrind: minutes. It runs programs of its own machine only.
+# AddressSanitizer runs on no emulator: where this machine is no x86-64, the same again on the library for its own processor.
+here-test:
+	@tools/x86-64 native || ! tools/library-here check || $(MAKE) --no-print-directory HERE=yes player-test
+
+# The C test and the tests of lengths under valgrind: minutes. It runs on no emulator.
 valgrind: x86-64 player-library
-	@tools/x86-64 native || { echo "valgrind runs x86-64 programs on x86-64 machines only, and this is $$(uname -m)."; exit 1; }
+	@tools/x86-64 native || { echo "valgrind does not run on an emulator: on this machine, $$(uname -m), 'make valgrind HERE=yes'."; exit 1; }
 	@command -v valgrind >/dev/null 2>&1 || { echo "valgrind is missing: package valgrind."; exit 1; }
 	@mkdir -p "$(PLAYER)/c"
 	@tools/x86-64 cc -std=c11 -O1 -g -Iinclude player/c/test.c "$(LIBRARY)/libplayer.a" -o "$(PLAYER)/c/test-valgrind"
 	@valgrind --quiet --error-exitcode=1 --leak-check=full "$(PLAYER)/c/test-valgrind"
-	@export CARGO_TARGET_X86_64_UNKNOWN_LINUX_GNU_RUNNER="valgrind --quiet --error-exitcode=1"; $(CARGO) test --quiet --offline --test lengths
+	@export "$$(tools/x86-64 runner)=valgrind --quiet --error-exitcode=1"; $(CARGO) test --quiet --offline --test lengths
 
 # Times and instruction counts; with ORIGINAL=folder of mizu-core 1.3.0's source beside it too. player/bench says what is measured.
 bench: x86-64 player-library

@@ -16,6 +16,9 @@ extern "C" {
     fn syscall(number: i64, ...) -> i64;
 }
 
+// Linux's number of clock_gettime.
+const CLOCK_GETTIME: i64 = if cfg!(target_arch = "x86_64") { 228 } else { 113 };
+
 /// Stands before the C library's: the original asks it for the wall time. The other clocks are the machine's.
 #[no_mangle]
 pub unsafe extern "C" fn clock_gettime(id: i32, to: *mut [i64; 2]) -> i32 {
@@ -23,7 +26,7 @@ pub unsafe extern "C" fn clock_gettime(id: i32, to: *mut [i64; 2]) -> i32 {
         *to = [WALL.load(Ordering::Relaxed) as i64, 0];
         return 0;
     }
-    syscall(228, id as i64, to) as i32
+    syscall(CLOCK_GETTIME, id as i64, to) as i32
 }
 
 pub fn set_wall(wall: u64) {

@@ -374,31 +374,23 @@ fn rarely(out: &mut String) {
 
 // How deep a call goes: the stack below is painted, and what the call has changed of it is looked for.
 mod stack {
-    use std::mem::MaybeUninit;
-
     const DEPTH: usize = 0x4000;
     const PAINT: u8 = 0xB7;
 
+    // Where the frames begin of functions that are called from here: a place in one, and up to what stacks are aligned to.
     #[inline(never)]
-    fn paint() {
-        let mut below = MaybeUninit::<[u8; DEPTH]>::uninit();
-        let first = below.as_mut_ptr().cast::<u8>();
-        (0..DEPTH).for_each(|i| unsafe { first.add(i).write_volatile(PAINT) });
+    fn below() -> usize {
+        let place = 0u8;
+        (super::black_box(&place as *const u8) as usize + 15) & !15
     }
 
-    // The same frame as above: its bytes are read as they lie.
-    #[inline(never)]
-    fn unpainted() -> usize {
-        let mut below = MaybeUninit::<[u8; DEPTH]>::uninit();
-        let first = below.as_mut_ptr().cast::<u8>();
-        let untouched = (0..DEPTH).take_while(|i| unsafe { first.add(*i).read_volatile() } == PAINT).count();
+    #[inline(always)]
+    pub fn depth<T>(call: impl FnOnce() -> T) -> usize {
+        let top = below();
+        (1..=DEPTH).for_each(|i| unsafe { ((top - i) as *mut u8).write_volatile(PAINT) });
+        super::black_box(call());
+        let untouched = (1..=DEPTH).rev().take_while(|i| unsafe { ((top - i) as *const u8).read_volatile() } == PAINT).count();
         DEPTH - untouched
-    }
-
-    pub fn depth(call: impl FnOnce()) -> usize {
-        paint();
-        call();
-        unpainted()
     }
 }
 
@@ -406,18 +398,17 @@ fn depths(out: &mut String) {
     let image = image(MAPPERS[4], false);
     let calls = Calls::mount(image);
     let (mut state, mut ram, mut room, mut size) = (calls.state, calls.ram.clone(), vec![0; 0x9000], 0);
-    let none = stack::depth(|| {});
     writeln!(out, "\nbytes of stack that a call takes").unwrap();
-    let mut deepest = |name: &str, depth: usize| writeln!(out, "{:62} {:12}", name, depth.saturating_sub(none)).unwrap();
-    deepest("imf_header", stack::depth(|| drop(sys::header(&calls.image, &mut [0; 12]))));
-    deepest("imf_mount", stack::depth(|| drop(sys::mount(&mut state, &calls.image, &mut ram, 0))));
-    deepest("imf_read", stack::depth(|| drop(sys::read(&state, &calls.image, &ram, 0xA000))));
-    deepest("imf_write", stack::depth(|| drop(sys::write(&mut state, &mut ram, 0xA000, 5))));
-    deepest("imf_advance", stack::depth(|| drop(sys::advance(&mut state, 1 << 60))));
-    deepest("imf_save_out", stack::depth(|| drop(sys::save_out(&state, &ram, &mut room, 0, &mut size))));
-    deepest("imf_save_in", stack::depth(|| drop(sys::save_in(&mut state, &mut ram, &room, 0, &mut 0))));
-    deepest("imf_windows", stack::depth(|| drop(sys::windows(&state, &mut [0; 6]))));
-    deepest("imf_window_read", stack::depth(|| drop(sys::window_read(&[0; 6], &calls.image, &ram, 0xA000))));
+    let mut deepest = |name: &str, depth: usize| writeln!(out, "{:62} {:12}", name, depth).unwrap();
+    deepest("imf_header", stack::depth(|| sys::header(&calls.image, &mut [0; 12])));
+    deepest("imf_mount", stack::depth(|| sys::mount(&mut state, &calls.image, &mut ram, 0)));
+    deepest("imf_read", stack::depth(|| sys::read(&state, &calls.image, &ram, 0xA000)));
+    deepest("imf_write", stack::depth(|| sys::write(&mut state, &mut ram, 0xA000, 5)));
+    deepest("imf_advance", stack::depth(|| sys::advance(&mut state, 1 << 60)));
+    deepest("imf_save_out", stack::depth(|| sys::save_out(&state, &ram, &mut room, 0, &mut size)));
+    deepest("imf_save_in", stack::depth(|| sys::save_in(&mut state, &mut ram, &room, 0, &mut 0)));
+    deepest("imf_windows", stack::depth(|| sys::windows(&state, &mut [0; 6])));
+    deepest("imf_window_read", stack::depth(|| sys::window_read(&[0; 6], &calls.image, &ram, 0xA000)));
     writeln!(out, "\n{:62} {:12}", "bytes of a state", sys::STATE_SIZE).unwrap();
 }
 

@@ -1,3 +1,0 @@
-//! The original's cartridge module, as it stands.
-#![allow(dead_code)]
-pub mod cartridge;
