@@ -1,4 +1,4 @@
--- Bytes by their kind: which state they are, whether a fit one, and that a read of the bytes is one of the state. Assumes nothing.
+-- Bytes by their kind: which state they are, whether a fit one, and that a call on the bytes is one on the state. Assumes nothing.
 use mathlib.Core.Bool.{Bool, true, false, not}
 use mathlib.Core.List.{List}
 use mathlib.Core.Path.{_≡_, refl, sym, ap, _∙_}
@@ -28,6 +28,7 @@ use Rattle.mapper.specs.declared.Mapper.the-variants.{NoMapper}
 use Rattle.window.specs.Window as window
 use Rattle.cartridge.specs.Fit.{bankCounts, fitBoard, fitCart}
 use Rattle.cartridge.specs.Fit as cartridge
+use Rattle.cartridge.specs.declared.Cartridge.{Cartridge}
 use Rattle.access.specs.Verdict.{noesBy, verdictBy, noes, verdictOf}
 use Rattle.access.specs.declared.Verdict.{Verdict}
 use Rattle.access.specs.declared.Verdict.the-variants.{Ram}
@@ -203,19 +204,17 @@ read-at s ram addr {m = m} e p q r =
     of-kind (λ (i : Mapper). window.readOf i (fieldAt 8 s 24) ram addr) s e p
     (r ∙ ap (λ (i : ℕ). window.readOf m i ram addr) q)
 
--- ---- a read of the bytes is one of the state
+-- ---- a call on the bytes is one on the state
 
-module _ (s rom ram : List ℕ) (addr : ℕ) {k : ℕ} {f : Bool} (p : k ≡ fieldAt 1 s 0) (q : f ≡ fitAt s k) where
-  abbrev answer : Decoded → ReadAnswer
-  answer = onState (λ c. readOf c rom ram addr) (Refuse Unfit)
+module _ (s : List ℕ) {k : ℕ} {f : Bool} (p : k ≡ fieldAt 1 s 0) (q : f ≡ fitAt s k) where
+  module _ {A : Type 0} (g : Cartridge → A) (x : A) (u : fitCart (cartAt s k) ≡ false → x ≡ g (cartAt s k)) where
+    unfit : (b : Bool) → both b (fitCart (cartAt s k)) ≡ false → x ≡ onState g x (pick b (To (cartAt s k)) NoState)
+    unfit true e = u e
+    unfit false e = refl
 
-  refused : (b : Bool) → both b (fitCart (cartAt s k)) ≡ false → Refuse Unfit ≡ answer (pick b (To (cartAt s k)) NoState)
-  unfolding readOf readVerdict
-  refused true e = ap (readBy (cartAt s k) rom ram addr) (by-tests (cartAt s k) _ addr false e refl refl refl refl)
-  refused false e = refl
-
-  pub unfit-read : not f ≡ true → Refuse Unfit ≡ answer (decodeOf s)
-  unfit-read h = refused (isState s k) (sym q ∙ not-true f h) ∙ ap answer (decoded-at s p)
+    -- where an unfit cartridge is answered as bytes that are none
+    pub unfit-call : not f ≡ true → x ≡ onState g x (decodeOf s)
+    unfit-call h = unfit (isState s k) (sym q ∙ not-true f h) ∙ ap (onState g x) (decoded-at s p)
 
   module _ (h : not f ≡ false) where
     fit-state : fitAt s k ≡ true
@@ -224,18 +223,34 @@ module _ (s rom ram : List ℕ) (addr : ℕ) {k : ℕ} {f : Bool} (p : k ≡ fie
     pub fit-cart : fitCart (cartAt s k) ≡ true
     fit-cart = both-right (isState s k) _ fit-state
 
-    is-decoded : To (cartAt s k) ≡ decodeOf s
+    pub is-decoded : To (cartAt s k) ≡ decodeOf s
     is-decoded =
         ap (λ (b : Bool). pick b (To (cartAt s k)) NoState) (sym (both-left (isState s k) _ fit-state)) ∙ decoded-at s p
 
-    module _ {l : Bool} {v : Verdict} (r : l ≡ lentBoth (cartAt s k) (length rom) (length ram))
-        (e : v ≡ verdictBy addr (noesBy true l addr false)) where
-      judged : v ≡ verdictOf (cartAt s k) l addr false
-      unfolding verdictOf noes
-      judged = e ∙ ap (λ (b : Bool). verdictBy addr (noesBy b l addr false)) (sym fit-cart)
+    pub fit-call : {A : Type 0} (g : Cartridge → A) (x : A) → g (cartAt s k) ≡ onState g x (decodeOf s)
+    fit-call g x = ap (onState g x) is-decoded
 
-      pub area-lent : v ≡ Ram → length ram ≡ cartridge.areaOf (cartAt s k)
-      area-lent = read-area (cartAt s k) addr rom ram refl r judged
+-- ---- and so a read
 
-      pub fit-read : {u : Verdict} → v ≡ u → readBy (cartAt s k) rom ram addr u ≡ answer (decodeOf s)
-      fit-read g = read-answered (cartAt s k) addr rom ram refl r judged g ∙ ap answer is-decoded
+module _ (s rom ram : List ℕ) (addr : ℕ) {k : ℕ} {f : Bool} (p : k ≡ fieldAt 1 s 0) (q : f ≡ fitAt s k) where
+  abbrev reads : Cartridge → ReadAnswer
+  reads c = readOf c rom ram addr
+
+  unfit-refused : fitCart (cartAt s k) ≡ false → Refuse Unfit ≡ reads (cartAt s k)
+  unfolding readOf readVerdict
+  unfit-refused e = ap (readBy (cartAt s k) rom ram addr) (by-tests (cartAt s k) _ addr false e refl refl refl refl)
+
+  pub unfit-read : not f ≡ true → Refuse Unfit ≡ onState reads (Refuse Unfit) (decodeOf s)
+  unfit-read = unfit-call s p q reads (Refuse Unfit) unfit-refused
+
+  module _ (h : not f ≡ false) {l : Bool} {v : Verdict} (r : l ≡ lentBoth (cartAt s k) (length rom) (length ram))
+      (e : v ≡ verdictBy addr (noesBy true l addr false)) where
+    judged : v ≡ verdictOf (cartAt s k) l addr false
+    unfolding verdictOf noes
+    judged = e ∙ ap (λ (b : Bool). verdictBy addr (noesBy b l addr false)) (sym (fit-cart s p q h))
+
+    pub area-lent : v ≡ Ram → length ram ≡ cartridge.areaOf (cartAt s k)
+    area-lent = read-area (cartAt s k) addr rom ram refl r judged
+
+    pub fit-read : {u : Verdict} → v ≡ u → readBy (cartAt s k) rom ram addr u ≡ onState reads (Refuse Unfit) (decodeOf s)
+    fit-read g = read-answered (cartAt s k) addr rom ram refl r judged g ∙ fit-call s p q h reads (Refuse Unfit)

@@ -1,4 +1,4 @@
-// What a read needs, straight from the bytes of a state. No cartridge is built: each function looks at the bytes of the state's kind,
+// What a call needs, straight from the bytes of a state. No cartridge is built: each function looks at the bytes of the state's kind,
 // and answers as the cartridge would that they are.
 ghost use mathlib.Core.Bool.{true, not};
 ghost use mathlib.Core.Path.{_≡_};
@@ -113,8 +113,8 @@ fn fit_kind(s: &[u8], kind: u8) -> bool
     }
 }
 
-// Whether the bytes are a fit state.
-fn fit(s: &[u8], kind: u8) -> bool
+// Whether the bytes, of the kind that the first of them says, are a fit state.
+pub fn fit(s: &[u8], kind: u8) -> bool
     requires { ⌜ 64 ≤ length (now s) ⌝ }
     ensures { λ r. ⌜ r ≡ fitAt (now (s .entry)) kind ⌝ }
 {
@@ -129,6 +129,23 @@ fn fit(s: &[u8], kind: u8) -> bool
         return false;
     }
     fit_kind(s, kind)
+}
+
+// The mapper alone, for a call that needs no more of the cartridge.
+pub fn mapper_in(s: &[u8], kind: u8) -> Mapper
+    requires { ⌜ 64 ≤ length (now s) ⌝ }
+    ensures { λ r. ⌜ r ≡ mapperAt (now (s .entry)) kind ⌝ }
+{
+    match kind {
+        0 => Mapper::NoMapper(NoMapper::new()),
+        1 => Mapper::Mbc1(mbc1_in(s, false)),
+        2 => Mapper::Mbc1(mbc1_in(s, true)),
+        3 => Mapper::Mbc2(mbc2_in(s)),
+        4 => Mapper::Mbc3(untimed_in(s)),
+        5 => Mapper::Mbc3(timed_in(s)),
+        6 => Mapper::Mbc5(mbc5_in(s)),
+        _ => Mapper::NoMapper(NoMapper::new()),
+    }
 }
 
 // Whether a RAM area of this length goes with the state.

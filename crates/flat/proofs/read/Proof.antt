@@ -28,7 +28,7 @@ enum-told c = search needs
 
 rom-byte-requires : tie.Need-rom-byte-requires
 rom-byte-requires c κs = let a = c .before .before .before .before .before .before .before .before .before .before .before .before .before .args in
-    (search needs, fit-cart (now (a .s)) (now (a .image)) (now (a .ram)) (a .addr) (c .before .before .before .before .before .before .before .before .before .read-u8 .ensures) (c .before .before .before .before .before .before .before .fit .ensures) (c .before .before .before .before .before .before .if1 .left))
+    (search needs, fit-cart (now (a .s)) (c .before .before .before .before .before .before .before .before .before .read-u8 .ensures) (c .before .before .before .before .before .before .before .fit .ensures) (c .before .before .before .before .before .before .if1 .left))
 
 enum-told-2 : tie.Need-enum-told-2
 enum-told-2 c = search needs
