@@ -15,11 +15,10 @@ use Rattle.mbc3.specs.declared.Mbc3 as mbc3-state
 use Rattle.mbc5.specs.Registers as mbc5
 use Rattle.mapper.specs.declared.Mapper.{Mapper}
 use Rattle.mapper.specs.declared.Mapper.the-variants.{Mbc3}
-use Rattle.cartridge.specs.declared.Cartridge.{Cartridge}
-use Rattle.state_fields.specs.Fields.{stored, isFlag, areFlags}
+use Rattle.state_fields.specs.Fields.{stored, flagAt, isFlag, areFlags}
 use Rattle.state_fields.specs.ClockFields.{clock}
 use Rattle.state_fields.proofs.Laws.{store-on, flags-one, flags-both}
-use Rattle.states.specs.Layout.{kindOf, registers, mbc3Fields, mapper, board, encodeOf}
+use Rattle.states.specs.Layout.{kindOf, boardOf, registers, mbc3Fields, mapper, cartFrom, encodeOf}
 use Rattle.states.specs.Reading.{flagLists, flagsOf, mbc3In, cartIn, carts, mappersIn, byKind, decodeOf}
 use Rattle.states.specs.declared.Decoded.{Decoded}
 use Rattle.states.specs.declared.Decoded.the-variants.{To, NoState}
@@ -40,9 +39,19 @@ pub untimed-stored : (m : mbc3-state.Mbc3) (s : List ℕ) {r : List ℕ} → m .
     → r ≡ stored (registers (m .enabled) (m .memory) (m .bank) (m .ram) 0) s → r ≡ stored (mapper (Mbc3 m)) s
 untimed-stored m s e p = p ∙ ap (λ (b : Bool). stored (mbc3Fields m b) s) (sym e)
 
-pub encoded : (c : Cartridge) {r t : List ℕ} → r ≡ stored (board c) (replicate 64 0) → t ≡ stored (mapper (c .mapper)) r → t ≡ encodeOf c
+-- what was mounted, then the mapper
+pub encoded : (m : Mapper) (battery : Bool) (banks length size : ℕ) {k : ℕ} {r t : List ℕ} → k ≡ kindOf m
+    → r ≡ stored (boardOf k battery banks length size) (replicate 64 0) → t ≡ stored (mapper m) r
+    → t ≡ encodeOf (cartFrom m battery banks length size)
 unfolding encodeOf stored
-encoded c p q = store-on (mapper (c .mapper)) p q
+encoded m battery banks length size e p q =
+    store-on (mapper m) (p ∙ ap (λ (k : ℕ). stored (boardOf k battery banks length size) (replicate 64 0)) e) q
+
+-- the parts as bytes have them, with this mapper
+pub encoded-in : (s : List ℕ) (m : Mapper) {b : Bool} {n l z : ℕ} {r : List ℕ} → b ≡ flagAt s 1 → n ≡ fieldAt 2 s 8 → l ≡ fieldAt 8 s 16
+    → z ≡ fieldAt 8 s 24 → r ≡ encodeOf (cartFrom m b n l z)
+    → r ≡ encodeOf (cartIn s m)
+encoded-in s m p q e f g = cc
 
 -- ---- flags
 

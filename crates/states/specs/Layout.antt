@@ -29,14 +29,12 @@ kindOf (Mbc3 m) = pick (m .timer) 5 4
 kindOf (Mbc5 m) = 6
 
 -- what was mounted
+abbrev pub boardOf : ℕ → Bool → ℕ → ℕ → ℕ → List Field
+boardOf kind battery banks length size =
+    field 0 1 kind ∷ field 1 1 (bit battery) ∷ field 8 2 banks ∷ field 16 8 length ∷ field 24 8 size ∷ []
+
 abbrev pub board : Cartridge → List Field
-board c =
-    field 0 1 (kindOf (c .mapper))
-    ∷ field 1 1 (bit (c .battery))
-    ∷ field 8 2 (c .banks)
-    ∷ field 16 8 (c .length)
-    ∷ field 24 8 (c .size)
-    ∷ []
+board c = boardOf (kindOf (c .mapper)) (c .battery) (c .banks) (c .length) (c .size)
 
 -- the mapper's registers
 abbrev pub registers : Bool → Bool → ℕ → ℕ → ℕ → List Field
@@ -54,6 +52,11 @@ mapper (Mbc1 m) = registers (m .enabled) (m .mode) (m .low) (m .two) 0
 mapper (Mbc2 m) = registers (m .enabled) false (m .bank) 0 0
 mapper (Mbc3 m) = mbc3Fields m (m .timer)
 mapper (Mbc5 m) = registers (m .enabled) false (m .bank) (m .ram) 0
+
+-- the cartridge of these parts
+abbrev pub cartFrom : Mapper → Bool → ℕ → ℕ → ℕ → Cartridge
+cartFrom m battery banks length size =
+    record { length = length; banks = banks; size = size; battery = battery; mapper = m }
 
 abbrev pub fieldsOf : Cartridge → List Field
 fieldsOf c = board c ++ mapper (c .mapper)

@@ -21,6 +21,7 @@ use Rattle.mbc5.specs.declared.Mbc5 as mbc5-state
 use Rattle.mapper.specs.declared.Mapper.{Mapper}
 use Rattle.mapper.specs.declared.Mapper.the-variants.{NoMapper, Mbc1, Mbc2, Mbc3, Mbc5}
 use Rattle.cartridge.specs.declared.Cartridge.{Cartridge}
+use Rattle.states.specs.Layout.{cartFrom}
 use Rattle.states.specs.declared.Decoded.{Decoded}
 use Rattle.states.specs.declared.Decoded.the-variants.{To, NoState}
 
@@ -60,14 +61,7 @@ abbrev pub mbc5In : List ℕ → mbc5-state.Mbc5
 mbc5In s = mbc5.mbc5 (flagAt s 2) (fieldAt 2 s 4) (fieldAt 1 s 6)
 
 abbrev pub cartIn : List ℕ → Mapper → Cartridge
-cartIn s m =
-    record {
-      length = fieldAt 8 s 16;
-      banks = fieldAt 2 s 8;
-      size = fieldAt 8 s 24;
-      battery = flagAt s 1;
-      mapper = m;
-    }
+cartIn s m = cartFrom m (flagAt s 1) (fieldAt 2 s 8) (fieldAt 8 s 16) (fieldAt 8 s 24)
 
 -- in the order of the kinds
 abbrev pub mappersIn : List ℕ → List Mapper

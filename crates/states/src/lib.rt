@@ -5,7 +5,7 @@ ghost use Prim.Native.Nat.{_≤_};
 ghost use lib.ListN.{length};
 ghost use Rattle.mapper.specs.declared.Mapper.the-variants as by;
 ghost use Rattle.state_fields.specs.Fields.{stored, areFlags};
-ghost use Rattle.states.specs.Layout.{board, registers, mapper, kindOf, encodeOf};
+ghost use Rattle.states.specs.Layout.{boardOf, registers, mapper, kindOf, cartFrom, encodeOf};
 ghost use Rattle.states.specs.Reading.{flagsOf, mbc1In, mbc2In, mbc3In, untimedIn, timedIn, mbc5In, cartIn, byKind, decodeOf};
 ghost use Rattle.states.specs.declared.Decoded.the-variants.{To};
 use cartridge::Cartridge;
@@ -55,16 +55,15 @@ fn kind_of(m: Mapper) -> u8
     }
 }
 
-fn put_board(s: &mut [u8], cart: Cartridge)
+fn put_board(s: &mut [u8], kind: u8, battery: bool, banks: u16, image: u64, size: u64)
     requires { ⌜ 64 ≤ length (now s) ⌝ }
-    ensures { λ _. ⌜ now (s .exit) ≡ stored (board cart) (now (s .entry)) ⌝ }
+    ensures { λ _. ⌜ now (s .exit) ≡ stored (boardOf kind battery banks image size) (now (s .entry)) ⌝ }
 {
-    let m = cart.mapper;
-    bytes_le::write_u8(s, 0, kind_of(m));
-    put_flag(s, 1, cart.battery);
-    bytes_le::write_u16(s, 8, cart.banks);
-    bytes_le::write_u64(s, 16, cart.length as u64);
-    bytes_le::write_u64(s, 24, cart.size as u64);
+    bytes_le::write_u8(s, 0, kind);
+    put_flag(s, 1, battery);
+    bytes_le::write_u16(s, 8, banks);
+    bytes_le::write_u64(s, 16, image);
+    bytes_le::write_u64(s, 24, size);
 }
 
 fn put_registers(s: &mut [u8], enabled: bool, mode: bool, bank: u16, ram: u8, register: u8)
@@ -112,14 +111,39 @@ fn put_mapper(s: &mut [u8], m: Mapper)
     }
 }
 
+// A cartridge by its parts: what no field has is zero.
+fn put_all(s: &mut [u8; 64], m: Mapper, battery: bool, banks: u16, image: u64, size: u64)
+    ensures { λ _. ⌜ now (s .exit) ≡ encodeOf (cartFrom m battery banks image size) ⌝ }
+{
+    *s = [0; 64];
+    put_board(s, kind_of(m), battery, banks, image, size);
+    put_mapper(s, m);
+}
+
 // Writes a cartridge as the 64 bytes of its state.
 pub fn encode(cart: Cartridge, s: &mut [u8; 64])
     ensures { λ _. ⌜ now (s .exit) ≡ encodeOf cart ⌝ }
 {
     let m = cart.mapper;
-    *s = [0; 64];
-    put_board(s, cart);
-    put_mapper(s, m);
+    put_all(
+        s,
+        m,
+        cart.battery,
+        cart.banks,
+        cart.length as u64,
+        cart.size as u64,
+    );
+}
+
+// Writes another mapper into a state: what was mounted stays where it is.
+pub fn put(s: &mut [u8; 64], m: Mapper)
+    ensures { λ _. ⌜ now (s .exit) ≡ encodeOf (cartIn (now (s .entry)) m) ⌝ }
+{
+    let battery = flag_at(s, 1);
+    let banks = bytes_le::read_u16(s, 8);
+    let image = bytes_le::read_u64(s, 16);
+    let size = bytes_le::read_u64(s, 24);
+    put_all(s, m, battery, banks, image, size);
 }
 
 // Whether every flag that this kind of cartridge uses is one.

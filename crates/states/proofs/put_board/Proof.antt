@@ -2,14 +2,8 @@
 use borrow.Author.Needs.{needs}
 use Rattle.states.proofs.put_board.Statement.{statement}
 use Rattle.states.proofs.put_board.Tie as tie
-use mathlib.Core.Path.{ap, _∙_}
-use denote.Ref.{now}
-use Rattle.bytes_le.specs.Little.{putAt}
 use Rattle.state_fields.specs.Fields.{stored}
 use Rattle.state_fields.proofs.Laws.{put-on}
-
-kind-of-requires : tie.Need-kind-of-requires
-kind-of-requires c κs = search needs
 
 write-u8-requires : tie.Need-write-u8-requires
 write-u8-requires c κs = search needs
@@ -37,11 +31,10 @@ returns c =
     let w₃ = w₄ .before .before .before .before in
     let w₂ = w₃ .before .before .before .before in
     let w₁ = w₂ .before .before .before .before in
-    let s = now (w₁ .before .before .before .before .args .s) in
     put-on 8 24 _
     (put-on 8 16 _
     (put-on 2 8 _
-    (put-on 1 1 _ (w₁ .write-u8 .ensures ∙ ap (putAt 1 s 0) (w₁ .before .kind-of .ensures)) (w₂ .put-flag .ensures))
+    (put-on 1 1 _ (w₁ .write-u8 .ensures) (w₂ .put-flag .ensures))
     (w₃ .write-u16 .ensures))
     (w₄ .write-u64 .ensures))
     (w₅ .write-u642 .ensures)
@@ -50,7 +43,6 @@ pub put-board-spec : {M : Type 1} → statement M
 put-board-spec =
     tie.close
     (tie.spec
-    kind-of-requires
     write-u8-requires
     put-flag-requires
     write-u16-requires
