@@ -77,6 +77,11 @@ module _ (c : Cartridge) (n : ℕ) where
   unfolding advanceOf fitCart
   split p = ap by (sym p)
 
+  -- an unfit cartridge is refused with 13
+  pub unfit-answer : fitCart c ≡ false → clocks.Refuse advance.Unfit ≡ advanceOf c n
+  unfolding advanceOf
+  unfit-answer f = rw f refl
+
   pub board-answer : fitBoard c ≡ false → clocks.Refuse advance.Unfit ≡ advanceOf c n
   board-answer p = split p
 

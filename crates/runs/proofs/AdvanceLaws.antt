@@ -24,16 +24,12 @@ use Rattle.cartridge.proofs.Laws.{fit-registers}
 use Rattle.bus.specs.Advance.{advanceOf}
 use Rattle.bus.specs.declared.Advanced.{Advanced}
 use Rattle.bus.specs.declared.Advanced.the-variants.{To, Refuse}
+use Rattle.bus.proofs.Laws.{unfit-answer}
 use Rattle.runs.specs.Time as time
 use Rattle.runs.specs.Advances.{Timed, withClockOf, fromClock, thenAdvance, singleAdvances}
 use Rattle.runs.proofs.MapperLaws as kept
 use Rattle.runs.proofs.BusLaws.{advance-fit}
 use Rattle.runs.proofs.TimeLaws.{joined}
-
--- an unfit cartridge is refused with 13
-pub unfit-refused : (c : Cartridge) (n : ℕ) → fitCart c ≡ false → advanceOf c n ≡ Refuse Unfit
-unfolding advanceOf
-unfit-refused c n f = rw f refl
 
 -- the answer of a fit one, by its mapper's
 fit-answer : (c : Cartridge) (n : ℕ) → fitCart c ≡ true
@@ -121,7 +117,7 @@ advances-joined c a b = go (fitCart c) (clockIn (c .mapper)) refl refl
     from k t (clocks.Refuse w) e = refl
 
     go : (f : Bool) (s : Timer) → fitCart c ≡ f → clockIn (c .mapper) ≡ s → advanceOf c (a + b) ≡ thenAdvance (advanceOf c a) b
-    go false s p q = unfit-refused c (a + b) p ∙ ap (λ (x : Advanced). thenAdvance x b) (sym (unfit-refused c a p))
+    go false s p q = sym (unfit-answer c (a + b) p) ∙ ap (λ (x : Advanced). thenAdvance x b) (unfit-answer c a p)
     go true timer.Nothing p q =
         no-clock-advance c (a + b) p q ∙ sym (no-clock-advance c b p q)
         ∙ ap (λ (x : Advanced). thenAdvance x b) (sym (no-clock-advance c a p q))

@@ -1,0 +1,173 @@
+-- A write to a state's bytes, and clocks that pass on them, are the bus's on what the bytes are. Assumes nothing.
+use mathlib.Core.Bool.{Bool, true, false, not}
+use mathlib.Core.List.{List}
+use mathlib.Core.Path.{_≡_, refl, sym, ap, _∙_}
+use Prim.Native.Nat.{ℕ}
+use lib.Dec.{eqb}
+use lib.ListN.{length}
+use Rattle.bytes_le.specs.Little.{fieldAt}
+use Rattle.clock.specs.declared.AdvanceRefusal.the-variants as advance
+use Rattle.mapper.specs.Mappers as mapper
+use Rattle.mapper.specs.declared.Mapper.{Mapper}
+use Rattle.window.specs.Window as window
+use Rattle.cartridge.specs.Fit.{fitCart, areaOf}
+use Rattle.cartridge.specs.declared.Cartridge.{Cartridge}
+use Rattle.cartridge.proofs.Laws.{fit-board}
+use Rattle.access.specs.Verdict.{noesBy, verdictBy, noes, verdictOf}
+use Rattle.access.specs.declared.Verdict.{Verdict}
+use Rattle.access.specs.declared.Verdict.the-variants.{Rom, Ram}
+use Rattle.access.specs.declared.Verdict.the-variants as verdict
+use Rattle.access.specs.declared.BusRefusal.{BusRefusal}
+use Rattle.access.specs.declared.BusRefusal.the-variants.{Unfit}
+use Rattle.access.proofs.Laws.{by-tests}
+use Rattle.bus.specs.Bus.{writeVerdict, writeBy, areaBy, writeOf, areaAfter}
+use Rattle.bus.specs.Advance.{advanceOf, fromMapper}
+use Rattle.bus.specs.declared.Advanced.{Advanced}
+use Rattle.bus.proofs.Laws.{write-answered, area-answered, write-area, unfit-answer, mapper-answer}
+use Rattle.states.specs.Layout.{encodeOf}
+use Rattle.states.specs.Reading.{cartIn}
+use Rattle.flat.specs.Kinds.{mapperAt, cartAt, fitAt}
+use Rattle.flat.proofs.Laws.{area-at, unfit-call, fit-cart, fit-call}
+use Rattle.flat_write.specs.Calls.{wroteBy, writeState, wroteOf, stateWritten, areaWritten, passedBy, advanceState, passedOf, stateAdvanced}
+use Rattle.flat_write.specs.declared.Wrote.{Wrote}
+use Rattle.flat_write.specs.declared.Wrote.the-variants as wrote
+use Rattle.flat_write.specs.declared.Passed.{Passed}
+use Rattle.flat_write.specs.declared.Passed.the-variants as passed
+
+-- ---- a write to a fit state, by the verdict
+
+pub judged-by : (m : Mapper) (size len addr byte : ℕ) {l b : Bool} {v : Verdict} → l ≡ eqb len (mapper.areaOf m size)
+    → b ≡ mapper.badSelection m addr byte → v ≡ verdictBy addr (noesBy true l addr b)
+    → v ≡ verdictBy addr (noesBy true (eqb len (mapper.areaOf m size)) addr (mapper.badSelection m addr byte))
+judged-by m size len addr byte p q e = rw (sym p, sym q) e
+
+module _ (s ram : List ℕ) (addr byte kind : ℕ) {m : Mapper} {z : ℕ} {v : Verdict} (f : fitCart (cartAt s kind) ≡ true)
+    (p : m ≡ mapperAt s kind) (q : z ≡ fieldAt 8 s 24)
+    (e : v ≡ verdictBy addr (noesBy true (eqb (length ram) (mapper.areaOf m z)) addr (mapper.badSelection m addr byte))) where
+  abbrev cart : Cartridge
+  cart = cartAt s kind
+
+  abbrev lent : Bool
+  lent = eqb (length ram) (mapper.areaOf m z)
+
+  abbrev bad : Bool
+  bad = mapper.badSelection m addr byte
+
+  same-lent : lent ≡ eqb (length ram) (areaOf cart)
+  same-lent =
+      ap (λ (i : Mapper). eqb (length ram) (mapper.areaOf i z)) p
+      ∙ ap (λ (i : ℕ). eqb (length ram) (mapper.areaOf (mapperAt s kind) i)) q
+
+  same-bad : bad ≡ mapper.badSelection (mapperAt s kind) addr byte
+  same-bad = ap (λ (i : Mapper). mapper.badSelection i addr byte) p
+
+  judged : v ≡ verdictOf cart lent addr bad
+  unfolding verdictOf noes
+  judged = e ∙ ap (λ (b : Bool). verdictBy addr (noesBy b lent addr bad)) (sym f)
+
+  pub area-lent : v ≡ Ram → length ram ≡ mapper.areaOf m z
+  area-lent g = area-at s {kind = kind} refl p q (write-area cart addr byte ram same-lent same-bad judged g)
+
+  -- the answer, and what is left of the state and the area
+  abbrev Left : Wrote → List ℕ → List ℕ → Type 0
+  Left r t a =
+      (r ≡ wroteBy (writeOf cart ram addr byte))
+      × ((t ≡ writeState s (writeOf cart ram addr byte)) × (a ≡ areaAfter cart ram addr byte))
+
+  left : {u : Verdict} {r : Wrote} {t a : List ℕ} → v ≡ u → r ≡ wroteBy (writeBy cart addr byte u)
+      → t ≡ writeState s (writeBy cart addr byte u) → a ≡ areaBy cart ram addr byte u
+      → Left r t a
+  left g x y w =
+      let answer = write-answered cart addr byte ram same-lent same-bad judged g in (
+        x ∙ ap wroteBy answer,
+        (y ∙ ap (writeState s) answer, w ∙ area-answered cart addr byte ram same-lent same-bad judged g),
+      )
+
+  pub rom-left : {n : Mapper} {t : List ℕ} → v ≡ Rom → n ≡ mapper.written m addr byte → t ≡ encodeOf (cartIn s n) → Left wrote.Done t ram
+  rom-left g d h =
+      left g refl
+      (h ∙ ap (λ (i : Mapper). encodeOf (cartIn s i)) (d ∙ ap (λ (i : Mapper). mapper.written i addr byte) p))
+      refl
+
+  pub ram-left : {n : Mapper} {t a : List ℕ} → v ≡ Ram → n ≡ window.mapperAfter m z addr byte → t ≡ encodeOf (cartIn s n)
+      → a ≡ window.areaAfter m z ram addr byte
+      → Left wrote.Done t a
+  ram-left g d h w =
+      left g refl
+      (h
+      ∙ ap (λ (i : Mapper). encodeOf (cartIn s i))
+      (d ∙ ap (λ (i : Mapper). window.mapperAfter i z addr byte) p
+      ∙ ap (λ (i : ℕ). window.mapperAfter (mapperAt s kind) i addr byte) q))
+      (w ∙ ap (λ (i : Mapper). window.areaAfter i z ram addr byte) p
+      ∙ ap (λ (i : ℕ). window.areaAfter (mapperAt s kind) i ram addr byte) q)
+
+  pub refused-left : {w : BusRefusal} → v ≡ verdict.Refuse w → Left (wrote.Refuse w) s ram
+  refused-left g = left g refl refl refl
+
+-- ---- a write to any bytes
+
+unfit-verdict : (c : Cartridge) (ram : List ℕ) (addr byte : ℕ) → fitCart c ≡ false → verdict.Refuse Unfit ≡ writeVerdict c ram addr byte
+unfolding writeVerdict
+unfit-verdict c ram addr byte e = by-tests c _ addr _ e refl refl refl refl
+
+module _ (s ram : List ℕ) (addr byte : ℕ) {k : ℕ} {f : Bool} (p : k ≡ fieldAt 1 s 0) (q : f ≡ fitAt s k) where
+  abbrev Written : Wrote → List ℕ → List ℕ → Type 0
+  Written r t a =
+      (r ≡ wroteOf s ram addr byte) × ((t ≡ stateWritten s ram addr byte) × (a ≡ areaWritten s ram addr byte))
+
+  pub unfit-written : not f ≡ true → Written (wrote.Refuse Unfit) s ram
+  unfolding wroteOf stateWritten areaWritten writeOf areaAfter
+  unfit-written h =
+      let c = cartAt s k in (
+        unfit-call s p q (λ c. wroteBy (writeOf c ram addr byte)) (wrote.Refuse Unfit)
+            (λ e. ap (λ (v : Verdict). wroteBy (writeBy c addr byte v)) (unfit-verdict c ram addr byte e)) h,
+        (
+          unfit-call s p q (λ c. writeState s (writeOf c ram addr byte)) s
+              (λ e. ap (λ (v : Verdict). writeState s (writeBy c addr byte v)) (unfit-verdict c ram addr byte e)) h,
+          unfit-call s p q (λ c. areaAfter c ram addr byte) ram
+              (λ e. ap (areaBy c ram addr byte) (unfit-verdict c ram addr byte e)) h,
+        ),
+      )
+
+  pub fit-written : not f ≡ false → {r : Wrote} {t a : List ℕ}
+      → (r ≡ wroteBy (writeOf (cartAt s k) ram addr byte))
+      × ((t ≡ writeState s (writeOf (cartAt s k) ram addr byte)) × (a ≡ areaAfter (cartAt s k) ram addr byte))
+      → Written r t a
+  unfolding wroteOf stateWritten areaWritten
+  fit-written h e = (
+    e .0 ∙ fit-call s p q h (λ c. wroteBy (writeOf c ram addr byte)) (wrote.Refuse Unfit),
+    (
+      e .1 .0 ∙ fit-call s p q h (λ c. writeState s (writeOf c ram addr byte)) s,
+      e .1 .1 ∙ fit-call s p q h (λ c. areaAfter c ram addr byte) ram,
+    ),
+  )
+
+-- ---- passing clocks
+
+module _ (s : List ℕ) (n : ℕ) {k : ℕ} {f : Bool} (p : k ≡ fieldAt 1 s 0) (q : f ≡ fitAt s k) where
+  abbrev Clocked : Passed → List ℕ → Type 0
+  Clocked r t = (r ≡ passedOf s n) × (t ≡ stateAdvanced s n)
+
+  pub unfit-clocked : not f ≡ true → Clocked (passed.Refuse advance.Unfit) s
+  unfolding passedOf stateAdvanced
+  unfit-clocked h =
+      let c = cartAt s k in (
+        unfit-call s p q (λ c. passedBy (advanceOf c n)) (passed.Refuse advance.Unfit) (λ e. ap passedBy (unfit-answer c n e)) h,
+        unfit-call s p q (λ c. advanceState s (advanceOf c n)) s (λ e. ap (advanceState s) (unfit-answer c n e)) h,
+      )
+
+  module _ (h : not f ≡ false) {m : Mapper} (g : m ≡ mapperAt s k) where
+    moved : fromMapper (cartIn s m) (mapper.advanceOf m n) ≡ advanceOf (cartAt s k) n
+    moved =
+        ap (λ (i : Mapper). fromMapper (cartIn s i) (mapper.advanceOf i n)) g
+        ∙ mapper-answer (cartAt s k) n (fit-board (cartAt s k) (fit-cart s p q h))
+
+    pub fit-clocked : {r : Passed} {t : List ℕ}
+        → (r ≡ passedBy (fromMapper (cartIn s m) (mapper.advanceOf m n)))
+        × (t ≡ advanceState s (fromMapper (cartIn s m) (mapper.advanceOf m n)))
+        → Clocked r t
+    unfolding passedOf stateAdvanced
+    fit-clocked e = (
+      e .0 ∙ ap passedBy moved ∙ fit-call s p q h (λ c. passedBy (advanceOf c n)) (passed.Refuse advance.Unfit),
+      e .1 ∙ ap (advanceState s) moved ∙ fit-call s p q h (λ c. advanceState s (advanceOf c n)) s,
+    )
