@@ -14,6 +14,7 @@ use Rattle.banking.specs.declared.RamAt.the-variants.{At, NotMapped}
 use Rattle.banking.proofs.Laws.{rom-inside}
 use Rattle.image.specs.Image.{byteAt}
 use Rattle.mapper.specs.Mappers.{areaOf}
+use Rattle.mapper.specs.declared.Mapper.{Mapper}
 use Rattle.mapper.proofs.Laws.{area-le}
 use Rattle.window.specs.Window.{wayOf, Within}
 use Rattle.window.specs.declared.Way.{Way}
@@ -21,10 +22,10 @@ use Rattle.window.specs.declared.Way.the-variants.{Bytes, Half, Timer}
 use Rattle.window.proofs.Laws.{lent-within}
 use Rattle.cartridge.specs.Fit.{fitCart}
 use Rattle.cartridge.specs.declared.Cartridge.{Cartridge}
-use Rattle.cartridge.proofs.Laws.{fit-banks, fit-count, fit-size}
+use Rattle.cartridge.proofs.Laws.{fit-registers, fit-banks, fit-count, fit-size}
 use Rattle.access.specs.Verdict.{inRam}
 use Rattle.access.proofs.Laws.{ram-window, below-ram, above-ram}
-use Rattle.windows.specs.Windows.{Small, romAt}
+use Rattle.windows.specs.Windows.{Small, Stands}
 use Rattle.windows.specs.Through.{placeIn, ramSeen, seenOf, putBy, putOf, areaBy, areaAfter}
 use Rattle.windows.specs.declared.Windows.{Windows}
 use Rattle.windows.specs.declared.Seen as seen
@@ -44,13 +45,15 @@ small (Bytes p) size n h i = inside-le p h i
 small (Half m) size n h i = omega (arith, i)
 small (Timer m) size n h i = tt
 
-pub way-small : (c : Cartridge) (addr : ℕ) {w : Way} → fitCart c ≡ true → w ≡ wayOf (c .mapper) (c .size) addr → Small w (c .size)
-way-small c addr {w} fit e =
-    small w (c .size) (areaOf (c .mapper) (c .size)) (omega (arith, area-le (c .mapper) (c .size), fit-size c fit))
-    (lent-within (c .mapper) (c .size) addr e refl)
+pub way-small : (m : Mapper) (size addr : ℕ) {w : Way} → size ≤ 0x20000 → w ≡ wayOf m size addr → Small w size
+way-small m size addr {w} h e =
+    small w size (areaOf m size) (omega (arith, area-le m size)) (lent-within m size addr e refl)
 
-pub rom-small : (c : Cartridge) (bank addr : ℕ) → fitCart c ≡ true → romPlace (c .banks) bank addr < 0x800000
-rom-small c bank addr fit = omega (arith, rom-inside (c .banks) bank addr (fit-banks c fit), fit-count c fit)
+pub rom-small : (banks bank addr : ℕ) → 0 < banks → banks ≤ 512 → romPlace banks bank addr < 0x800000
+rom-small banks bank addr h l = omega (arith, rom-inside banks bank addr h)
+
+pub fit-stands : (c : Cartridge) → fitCart c ≡ true → Stands (c .banks) (c .size) (c .mapper)
+fit-stands c e = record { some = fit-banks c e; few = fit-count c e; small = fit-size c e; fit = fit-registers c e }
 
 -- ---- a byte, or what stands beyond
 

@@ -46,7 +46,7 @@ use Rattle.bus.specs.Bus as bus
 use Rattle.bus.specs.declared.ReadAnswer.{ReadAnswer}
 use Rattle.bus.specs.declared.ReadAnswer.the-variants as answer
 use Rattle.bus.specs.declared.WriteAnswer.the-variants as written
-use Rattle.windows.specs.Windows.{byWay, romAt, ramAt, windowsOf, asksOf}
+use Rattle.windows.specs.Windows.{byWay, romAt, ramAt, windowsBy, windowsOf, asksOf}
 use Rattle.windows.specs.Through.{ramSeen, seenOf, fromRead, putOf, areaAfter}
 use Rattle.windows.specs.declared.Seen.the-variants as seen
 use Rattle.windows.specs.declared.Put.the-variants as put
@@ -90,20 +90,22 @@ rom-from-0 : (banks bank base addr : ℕ) → base % 0x4000 ≡ 0 → romPlace b
 unfolding placeOf
 rom-from-0 banks bank base addr e = omega (arith, e)
 
-low-place : (c : Cartridge) (addr : ℕ) → addr < 0x4000 → romAt c 0 + addr ≡ romPlace (c .banks) (bankAt (c .mapper) addr) addr
-unfolding romAt bankAt
-low-place c addr h =
-    let m : addr ≡ addr % 0x4000 = omega arith in
-    ap (λ (k : ℕ). romPlace (c .banks) (bank0 (c .mapper)) 0 + k) m
-    ∙ rom-from-0 (c .banks) (bank0 (c .mapper)) 0 addr refl
-    ∙ ap (λ (b : Bool). romPlace (c .banks) (pick b (bank0 (c .mapper)) (bankX (c .mapper))) addr) (sym (lt-ltb addr 0x4000 h))
+module _ (banks : ℕ) (m : Mapper) (addr : ℕ) where
+  by-window : {b : Bool} → ltb addr 0x4000 ≡ b → romPlace banks (pick b (bank0 m) (bankX m)) addr ≡ romPlace banks (bankAt m addr) addr
+  unfolding bankAt
+  by-window e = ap (λ (b : Bool). romPlace banks (pick b (bank0 m) (bankX m)) addr) (sym e)
 
-high-place : (c : Cartridge) (addr : ℕ) → 0x4000 ≤ addr
-    → romAt c 0x4000 + addr % 0x4000 ≡ romPlace (c .banks) (bankAt (c .mapper) addr) addr
-unfolding romAt bankAt
-high-place c addr h =
-    rom-from-0 (c .banks) (bankX (c .mapper)) 0x4000 addr refl
-    ∙ ap (λ (b : Bool). romPlace (c .banks) (pick b (bank0 (c .mapper)) (bankX (c .mapper))) addr) (sym (le-ltb addr 0x4000 h))
+  low-place : addr < 0x4000 → romAt banks m 0 + addr ≡ romPlace banks (bankAt m addr) addr
+  unfolding romAt bankAt
+  low-place h =
+      let moved : addr ≡ addr % 0x4000 = omega arith in
+      ap (λ (k : ℕ). romPlace banks (bank0 m) 0 + k) moved
+      ∙ rom-from-0 banks (bank0 m) 0 addr refl
+      ∙ by-window (lt-ltb addr 0x4000 h)
+
+  high-place : 0x4000 ≤ addr → romAt banks m 0x4000 + addr % 0x4000 ≡ romPlace banks (bankAt m addr) addr
+  unfolding romAt bankAt
+  high-place h = rom-from-0 banks (bankX m) 0x4000 addr refl ∙ by-window (le-ltb addr 0x4000 h)
 
 -- ---- "for every address, reading through the windows gives what the state gives", and asks where a clock register stands
 
@@ -120,24 +122,24 @@ module _ (c : Cartridge) (rom ram : List ℕ) (addr : ℕ) (l : Lent c rom ram) 
       ∙ ap (λ x. pick (both (inRam addr) (asksOf c)) seen.Ask (fromRead x)) (sym q)
 
   sees-low : addr < 0x4000 → Sees
-  unfolding windowsOf
+  unfolding windowsBy
   sees-low h =
       by-answer (below-ram addr (omega arith)) (bus-rom c rom ram addr l (omega arith))
-      (sym (laws.seen-low (windowsOf c) rom ram addr h) ∙ ap (λ (k : ℕ). seen.Byte (byteAt rom k)) (low-place c addr h))
+      (sym (laws.seen-low (windowsOf c) rom ram addr h) ∙ ap (λ (k : ℕ). seen.Byte (byteAt rom k)) (low-place (c .banks) (c .mapper) addr h))
 
   sees-high : 0x4000 ≤ addr → addr < 0x8000 → Sees
-  unfolding windowsOf
+  unfolding windowsBy
   sees-high g h =
       by-answer (below-ram addr (omega arith)) (bus-rom c rom ram addr l h)
-      (sym (laws.seen-high (windowsOf c) rom ram addr g h) ∙ ap (λ (k : ℕ). seen.Byte (byteAt rom k)) (high-place c addr g))
+      (sym (laws.seen-high (windowsOf c) rom ram addr g h) ∙ ap (λ (k : ℕ). seen.Byte (byteAt rom k)) (high-place (c .banks) (c .mapper) addr g))
 
   sees-ram : 0xA000 ≤ addr → addr < 0xC000 → Sees
-  unfolding windowsOf ramAt window.readOf
+  unfolding windowsBy ramAt window.readOf
   sees-ram g h =
       let moves = way-moves (c .mapper) (c .size) addr in
       by-answer (ram-window addr g h) (bus-ram c rom ram addr l g h)
       (sym (laws.seen-ram (windowsOf c) rom ram addr g h)
-      ∙ way-seen (wayOf (c .mapper) (c .size) 0xA000) (romAt c 0) (romAt c 0x4000) (c .size) addr ram
+      ∙ way-seen (wayOf (c .mapper) (c .size) 0xA000) (romAt (c .banks) (c .mapper) 0) (romAt (c .banks) (c .mapper) 0x4000) (c .size) addr ram
       (lent-within (c .mapper) (c .size) addr (sym moves) (l .area))
       ∙ ap (λ w. pick (asksOf c) seen.Ask (seen.Byte (window.readBy w (c .size) ram addr))) (sym moves))
 
@@ -204,14 +206,14 @@ module _ (c : Cartridge) (ram : List ℕ) (addr byte : ℕ) (fit : fitCart c ≡
   pub window-write : 0xA000 ≤ addr → addr < 0xC000
       → (putOf (windowsOf c) addr ≡ pick (asksOf c) put.Ask put.Done)
       × (areaAfter (windowsOf c) ram addr byte ≡ bus.areaAfter c ram addr byte)
-  unfolding windowsOf ramAt bus.areaAfter window.areaAfter
+  unfolding windowsBy ramAt bus.areaAfter window.areaAfter
   window-write g h =
       let moves = way-moves (c .mapper) (c .size) addr in
       let first = wayOf (c .mapper) (c .size) 0xA000 in
       let answers = laws.put-ram (windowsOf c) ram addr byte g h in (
-        sym (answers .0) ∙ way-put first (romAt c 0) (romAt c 0x4000) (c .size),
+        sym (answers .0) ∙ way-put first (romAt (c .banks) (c .mapper) 0) (romAt (c .banks) (c .mapper) 0x4000) (c .size),
         sym (answers .1)
-            ∙ way-stored first (romAt c 0) (romAt c 0x4000) (c .size) addr byte ram
+            ∙ way-stored first (romAt (c .banks) (c .mapper) 0) (romAt (c .banks) (c .mapper) 0x4000) (c .size) addr byte ram
             ∙ ap (λ w. window.areaBy w (c .size) ram addr byte) (sym moves)
             ∙ ap (bus.areaBy c ram addr byte) (sym (judged (omega arith) (ram-window addr g h))),
       )
@@ -240,57 +242,56 @@ way-by-clock : (b : Bool) (p : RamAt) (m : state.Mbc3) (k : Clock) (size : ℕ)
 way-by-clock true p m k size = refl
 way-by-clock false p m k size = refl
 
--- only the clock differs
-clock-moves-none : (c : Cartridge) (m : state.Mbc3) (k : Clock)
-    → windowsOf (withMapper c (Mbc3 (mbc3.withClock m k))) ≡ windowsOf (withMapper c (Mbc3 m))
-unfolding windowsOf romAt ramAt bankAt mbc3.ramAt
-clock-moves-none c m k =
-    ap (λ r. record {
-      rom0 = romAt (withMapper c (Mbc3 m)) 0;
-      romx = romAt (withMapper c (Mbc3 m)) 0x4000;
-      ram = r .ram;
-      mask = r .mask;
-      how = r .how;
-    })
-    (way-by-clock (m .memory) (mbc3.ramAt m (c .size) 0xA000) m k (c .size))
+module _ (banks size : ℕ) where
+  -- only the clock differs
+  clock-moves-none : (m : state.Mbc3) (k : Clock) → windowsBy banks size (Mbc3 (mbc3.withClock m k)) ≡ windowsBy banks size (Mbc3 m)
+  unfolding windowsBy romAt ramAt bankAt mbc3.ramAt
+  clock-moves-none m k =
+      ap (λ r. record {
+        rom0 = romAt banks (Mbc3 m) 0;
+        romx = romAt banks (Mbc3 m) 0x4000;
+        ram = r .ram;
+        mask = r .mask;
+        how = r .how;
+      })
+      (way-by-clock (m .memory) (mbc3.ramAt m size 0xA000) m k size)
 
--- a write to the RAM window may change a clock register, and no window;
-module _ (c : Cartridge) where
-  written-stays : (m : state.Mbc3) (w : Written) → windowsOf (withMapper c (Mbc3 (clockOr m w))) ≡ windowsOf (withMapper c (Mbc3 m))
-  written-stays m (written-clock.To k) = clock-moves-none c m k
+  -- a write to the RAM window may change a clock register, and no window;
+  written-stays : (m : state.Mbc3) (w : Written) → windowsBy banks size (Mbc3 (clockOr m w)) ≡ windowsBy banks size (Mbc3 m)
+  written-stays m (written-clock.To k) = clock-moves-none m k
   written-stays m written-clock.NoRegister = refl
 
   selected-stays : (b : Bool) (m : state.Mbc3) (p : RamAt) (byte : ℕ)
-      → windowsOf (withMapper c (window.mapperBy (pick b (Bytes p) (Timer m)) (Mbc3 m) byte)) ≡ windowsOf (withMapper c (Mbc3 m))
+      → windowsBy banks size (window.mapperBy (pick b (Bytes p) (Timer m)) (Mbc3 m) byte) ≡ windowsBy banks size (Mbc3 m)
   unfolding windowWritten
   selected-stays true m p byte = refl
   selected-stays false m p byte =
-      pick-has (λ (x : state.Mbc3). windowsOf (withMapper c (Mbc3 x)) ≡ windowsOf (withMapper c (Mbc3 m))) (onClock m)
+      pick-has (λ (x : state.Mbc3). windowsBy banks size (Mbc3 x) ≡ windowsBy banks size (Mbc3 m)) (onClock m)
       (written-stays m (writtenOf (m .clock) (m .register) byte)) refl
 
-  mapper-written : (m : Mapper) (addr byte : ℕ)
-      → windowsOf (withMapper c (window.mapperAfter m (c .size) addr byte)) ≡ windowsOf (withMapper c m)
+  mapper-written : (m : Mapper) (addr byte : ℕ) → windowsBy banks size (window.mapperAfter m size addr byte) ≡ windowsBy banks size m
   unfolding window.mapperAfter
   mapper-written (NoMapper m) addr byte = refl
   mapper-written (Mbc1 m) addr byte = refl
   mapper-written (Mbc2 m) addr byte = refl
-  mapper-written (Mbc3 m) addr byte = selected-stays (m .memory) m (mbc3.ramAt m (c .size) addr) byte
+  mapper-written (Mbc3 m) addr byte = selected-stays (m .memory) m (mbc3.ramAt m size addr) byte
   mapper-written (Mbc5 m) addr byte = refl
 
-  pub windows-stay-in-ram-write : (addr byte : ℕ)
-      → windowsOf (withMapper c (window.mapperAfter (c .mapper) (c .size) addr byte)) ≡ windowsOf c
-  windows-stay-in-ram-write = mapper-written (c .mapper)
-
   -- nor do passing clocks.
-  mapper-clocked : (m : Mapper) (n : ℕ) → windowsOf (withMapper c (clocksOn m n)) ≡ windowsOf (withMapper c m)
+  mapper-clocked : (m : Mapper) (n : ℕ) → windowsBy banks size (clocksOn m n) ≡ windowsBy banks size m
   unfolding timer.clocksOn
   mapper-clocked (NoMapper m) n = refl
   mapper-clocked (Mbc1 m) n = refl
   mapper-clocked (Mbc2 m) n = refl
   mapper-clocked (Mbc3 m) n =
-      pick-has (λ (x : state.Mbc3). windowsOf (withMapper c (Mbc3 x)) ≡ windowsOf (withMapper c (Mbc3 m))) (m .timer)
-      (clock-moves-none c m (ticks n (m .clock))) refl
+      pick-has (λ (x : state.Mbc3). windowsBy banks size (Mbc3 x) ≡ windowsBy banks size (Mbc3 m)) (m .timer)
+      (clock-moves-none m (ticks n (m .clock))) refl
   mapper-clocked (Mbc5 m) n = refl
 
+module _ (c : Cartridge) where
+  pub windows-stay-in-ram-write : (addr byte : ℕ)
+      → windowsOf (withMapper c (window.mapperAfter (c .mapper) (c .size) addr byte)) ≡ windowsOf c
+  windows-stay-in-ram-write = mapper-written (c .banks) (c .size) (c .mapper)
+
   pub windows-stay-in-advance : (n : ℕ) → windowsOf (withMapper c (clocksOn (c .mapper) n)) ≡ windowsOf c
-  windows-stay-in-advance = mapper-clocked (c .mapper)
+  windows-stay-in-advance = mapper-clocked (c .banks) (c .size) (c .mapper)

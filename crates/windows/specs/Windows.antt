@@ -1,6 +1,7 @@
 -- Where the windows 0x0000, 0x4000 and 0xA000 of a cartridge stand: the place that each shows first, and how the last is mapped.
-use mathlib.Core.Bool.{Bool, false}
-use Prim.Native.Nat.{ℕ, _≤_}
+use mathlib.Core.Bool.{Bool, true, false}
+use mathlib.Core.Path.{_≡_}
+use Prim.Native.Nat.{ℕ, _<_, _≤_}
 use lib.Dec.{eqb}
 use Rattle.facts.specs.Choice.{pick}
 use Rattle.banking.specs.Banks.{Inside, romPlace}
@@ -9,7 +10,8 @@ use Rattle.banking.specs.declared.RamAt.the-variants.{At, NotMapped}
 use Rattle.mbc2.specs.declared.Mbc2.{Mbc2}
 use Rattle.mbc3.specs.declared.Mbc3.{Mbc3}
 use Rattle.timer.specs.ClockWindow.{onClock}
-use Rattle.mapper.specs.Mappers.{bankAt}
+use Rattle.mapper.specs.Mappers.{bankAt, fitRegisters}
+use Rattle.mapper.specs.declared.Mapper.{Mapper}
 use Rattle.window.specs.Window.{wayOf}
 use Rattle.window.specs.declared.Way.{Way}
 use Rattle.window.specs.declared.Way.the-variants.{Bytes, Half, Timer}
@@ -52,21 +54,31 @@ Small (Bytes p) size = Inside p 0x20200
 Small (Half m) size = size ≤ 0x20000
 Small (Timer m) size = Unit {0}
 
-unfoldable pub ramAt : Cartridge → RamWindow
-ramAt c = byWay (wayOf (c .mapper) (c .size) 0xA000) (c .size)
+unfoldable pub ramAt : Mapper → ℕ → RamWindow
+ramAt m size = byWay (wayOf m size 0xA000) size
 
-unfoldable pub romAt : Cartridge → ℕ → ℕ
-romAt c addr = romPlace (c .banks) (bankAt (c .mapper) addr) addr
+unfoldable pub romAt : ℕ → Mapper → ℕ → ℕ
+romAt banks m addr = romPlace banks (bankAt m addr) addr
 
-unfoldable pub windowsOf : Cartridge → Windows
-windowsOf c =
+unfoldable pub windowsBy : ℕ → ℕ → Mapper → Windows
+windowsBy banks size m =
     record {
-      rom0 = romAt c 0;
-      romx = romAt c 0x4000;
-      ram = ramAt c .ram;
-      mask = ramAt c .mask;
-      how = ramAt c .how;
+      rom0 = romAt banks m 0;
+      romx = romAt banks m 0x4000;
+      ram = ramAt m size .ram;
+      mask = ramAt m size .mask;
+      how = ramAt m size .how;
     }
+
+-- what windows ask of these three, and a fit cartridge gives
+pub record Stands (banks size : ℕ) (m : Mapper) : Type 0 where
+  pub some : 0 < banks
+  pub few : banks ≤ 512
+  pub small : size ≤ 0x20000
+  pub fit : fitRegisters m ≡ true
+
+abbrev pub windowsOf : Cartridge → Windows
+windowsOf c = windowsBy (c .banks) (c .size) (c .mapper)
 
 unfoldable pub askOf : Cartridge → Asked
 askOf c = pick (fitCart c) (To (windowsOf c)) Unfit

@@ -2,11 +2,11 @@
 // look at the state; only a write below 0x8000 or a save that is read makes others of them.
 ghost use mathlib.Core.Bool.{true};
 ghost use mathlib.Core.Path.{_≡_};
-ghost use Prim.Native.Nat.{_≤_};
+ghost use Prim.Native.Nat.{_<_, _≤_};
 ghost use lib.ListN.{getD, set};
-ghost use Rattle.cartridge.specs.Fit.{fitCart};
 ghost use Rattle.banking.specs.Banks.{Inside};
-ghost use Rattle.windows.specs.Windows.{maskOf, unmapped, bytesAt, halvesAt, asks, Small, byWay, romAt, ramAt, windowsOf, askOf};
+ghost use Rattle.mapper.specs.Mappers.{fitRegisters};
+ghost use Rattle.windows.specs.Windows.{maskOf, unmapped, bytesAt, halvesAt, asks, Small, byWay, romAt, ramAt, windowsBy, Stands, askOf};
 ghost use Rattle.windows.specs.Through.{placeIn, ramSeen, seenOf, putBy, areaBy, putOf, areaAfter};
 use banking::RamAt;
 use cartridge::Cartridge;
@@ -129,31 +129,32 @@ fn by_way(way: Way, size: usize) -> RamWindow
     }
 }
 
-fn ram_at(cart: Cartridge) -> RamWindow
-    requires { ⌜ fitCart cart ≡ true ⌝ }
-    ensures { λ r. ⌜ r ≡ ramAt cart ⌝ }
+fn ram_at(mapper: Mapper, size: usize) -> RamWindow
+    requires { ⌜ size ≤ 0x20000 ⌝ }
+    ensures { λ r. ⌜ r ≡ ramAt mapper size ⌝ }
 {
-    let mapper = cart.mapper;
-    by_way(window::way_of(mapper, cart.size, 0xA000), cart.size)
+    by_way(window::way_of(mapper, size, 0xA000), size)
 }
 
 // The place in the padded image that a window shows first.
-fn rom_at(cart: Cartridge, addr: u16) -> u32
-    requires { ⌜ fitCart cart ≡ true ⌝ }
-    ensures { λ r. ⌜ r ≡ romAt cart addr ⌝ }
+fn rom_at(banks: u16, mapper: Mapper, addr: u16) -> u32
+    requires { ⌜ 0 < banks ⌝ }
+    requires { ⌜ banks ≤ 512 ⌝ }
+    requires { ⌜ fitRegisters mapper ≡ true ⌝ }
+    ensures { λ r. ⌜ r ≡ romAt banks mapper addr ⌝ }
 {
-    let mapper = cart.mapper;
-    banking::rom_place(cart.banks, mapper.bank_at(addr), addr) as u32
+    banking::rom_place(banks, mapper.bank_at(addr), addr) as u32
 }
 
-fn fitting(cart: Cartridge) -> Windows
-    requires { ⌜ fitCart cart ≡ true ⌝ }
-    ensures { λ r. ⌜ r ≡ windowsOf cart ⌝ }
+// The windows as they stand, by all of a fit cartridge that moves them.
+pub fn standing(banks: u16, size: usize, mapper: Mapper) -> Windows
+    requires { ⌜ Stands banks size mapper ⌝ }
+    ensures { λ r. ⌜ r ≡ windowsBy banks size mapper ⌝ }
 {
-    let part = ram_at(cart);
+    let part = ram_at(mapper, size);
     Windows {
-        rom0: rom_at(cart, 0),
-        romx: rom_at(cart, 0x4000),
+        rom0: rom_at(banks, mapper, 0),
+        romx: rom_at(banks, mapper, 0x4000),
         ram: part.ram,
         mask: part.mask,
         how: part.how,
@@ -165,7 +166,8 @@ pub fn of(cart: Cartridge) -> Asked
     ensures { λ r. ⌜ r ≡ askOf cart ⌝ }
 {
     if cart.fit() {
-        return Asked::To(fitting(cart));
+        let mapper = cart.mapper;
+        return Asked::To(standing(cart.banks, cart.size, mapper));
     }
     Asked::Unfit
 }

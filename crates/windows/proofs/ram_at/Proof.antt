@@ -11,11 +11,11 @@ way-of-requires : tie.Need-way-of-requires
 way-of-requires c κs = search needs
 
 by-way-requires : tie.Need-by-way-requires
-by-way-requires c κs = way-small (c .before .args .cart) 0xA000 (c .before .pre) (c .way-of .ensures)
+by-way-requires c κs = let s = c .before in way-small (s .args .mapper) (s .args .size) 0xA000 (s .pre) (c .way-of .ensures)
 
 returns : tie.Need-returns
 unfolding ramAt
-returns c = c .by-way .ensures ∙ ap (λ (w : Way). byWay w (c .before .before .args .cart .size)) (c .before .way-of .ensures)
+returns c = c .by-way .ensures ∙ ap (λ (w : Way). byWay w (c .before .before .args .size)) (c .before .way-of .ensures)
 
 pub ram-at-spec : {M : Type 1} → statement M
 ram-at-spec = tie.close (tie.spec way-of-requires by-way-requires returns)

@@ -1,8 +1,8 @@
--- `windows::fitting` meets its contract. Assumes nothing.
+-- `windows::standing` meets its contract. Assumes nothing.
 use borrow.Author.Needs.{needs}
-use Rattle.windows.proofs.fitting.Statement.{statement}
-use Rattle.windows.proofs.fitting.Tie as tie
-use Rattle.windows.specs.Windows.{windowsOf}
+use Rattle.windows.proofs.standing.Statement.{statement}
+use Rattle.windows.proofs.standing.Tie as tie
+use Rattle.windows.specs.Windows.{windowsBy}
 
 ram-at-requires : tie.Need-ram-at-requires
 ram-at-requires c κs = search needs
@@ -14,8 +14,8 @@ rom-at-requires-2 : tie.Need-rom-at-requires-2
 rom-at-requires-2 c κs = search needs
 
 returns : tie.Need-returns
-unfolding windowsOf
+unfolding windowsBy
 returns c = rw (c .before .rom-at .ensures, c .rom-at2 .ensures, c .before .before .ram-at .ensures)
 
-pub fitting-spec : {M : Type 1} → statement M
-fitting-spec = tie.close (tie.spec ram-at-requires rom-at-requires rom-at-requires-2 returns)
+pub standing-spec : {M : Type 1} → statement M
+standing-spec = tie.close (tie.spec ram-at-requires rom-at-requires rom-at-requires-2 returns)
