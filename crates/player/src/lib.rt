@@ -334,10 +334,7 @@ pub extern "C" fn imf_windows(state: &[u8; 64], windows: &mut [u32; 6]) -> u32
     ensures { λ r. ⌜ r ≡ windowsNumber (now (state .entry)) ⌝ }
     ensures { λ _. ⌜ now (windows .exit) ≡ windowsAfter (now (state .entry)) (now (windows .entry)) ⌝ }
 {
-    match states::decode(state) {
-        Decoded::To(cart) => take_windows(windows, windows::of(cart)),
-        Decoded::NoState => NO_STATE,
-    }
+    take_windows(windows, flat_windows::of(state))
 }
 
 fn windows_in(w: &[u32; 6]) -> Windows

@@ -12,6 +12,7 @@ use Rattle.states.specs.Reading.{decodeOf}
 use Rattle.windows.specs.Windows as windows
 use Rattle.windows.specs.Through as through
 use Rattle.windows.specs.declared.Windows.{Windows}
+use Rattle.windows.specs.declared.Asked.the-variants as asked
 use Rattle.player.specs.Header as header
 use Rattle.player.specs.Bus as bus
 use Rattle.player.specs.Save as save
@@ -31,10 +32,15 @@ pub flat-read-coincides : (s rom ram : List ℕ) (addr : ℕ)
 flat-read-coincides s rom ram addr =
     any-two (onState (λ c. reading.readOf c rom ram addr) (read.Refuse Unfit) (decodeOf s))
 
--- `windows::of`, `read`, and `write`: the answer, and the area
+-- `windows::of`
 pub windows-of-coincides : (c : Cartridge) → Coincide (windows.askOf c)
 windows-of-coincides c = any-two (windows.askOf c)
 
+-- `flat_windows::of`, the same on what the bytes decode to
+pub flat-windows-of-coincides : (s : List ℕ) → Coincide (onState windows.askOf asked.Unfit (decodeOf s))
+flat-windows-of-coincides s = any-two (onState windows.askOf asked.Unfit (decodeOf s))
+
+-- `windows::read`, and `write`: the answer, and the area
 pub windows-read-coincides : (w : Windows) (rom ram : List ℕ) (addr : ℕ) → Coincide (through.seenOf w rom ram addr)
 windows-read-coincides w rom ram addr = any-two (through.seenOf w rom ram addr)
 
