@@ -51,37 +51,20 @@ readNumber (read.Refuse w) = refused + numberOf w
 unfoldable pub readOf : List ℕ → List ℕ → List ℕ → ℕ → ℕ
 readOf s rom ram addr = onState (λ c. readNumber (bus.readOf c rom ram addr)) (refused + noState) (decodeOf s)
 
--- ---- a write
+-- ---- a write: its number; `stateWritten` and `areaWritten` of `flat_write` are what it leaves
 
 abbrev pub writeNumber : WriteAnswer → ℕ
 writeNumber (write.Done c) = 0
 writeNumber (write.Refuse w) = numberOf w
 
-abbrev pub writeState : List ℕ → WriteAnswer → List ℕ
-writeState s (write.Done c) = encodeOf c
-writeState s (write.Refuse w) = s
-
 unfoldable pub writeOf : List ℕ → List ℕ → ℕ → ℕ → ℕ
 writeOf s ram addr byte = onState (λ c. writeNumber (bus.writeOf c ram addr byte)) noState (decodeOf s)
 
-unfoldable pub stateWritten : List ℕ → List ℕ → ℕ → ℕ → List ℕ
-stateWritten s ram addr byte = onState (λ c. writeState s (bus.writeOf c ram addr byte)) s (decodeOf s)
-
-unfoldable pub areaWritten : List ℕ → List ℕ → ℕ → ℕ → List ℕ
-areaWritten s ram addr byte = onState (λ c. bus.areaAfter c ram addr byte) ram (decodeOf s)
-
--- ---- passing clocks
+-- ---- passing clocks: the number; `stateAdvanced` of `flat_write` is what is left
 
 abbrev pub advanceNumber : Advanced → ℕ
 advanceNumber (advanced.To c) = 0
 advanceNumber (advanced.Refuse w) = clock.numberOf w
 
-abbrev pub advanceState : List ℕ → Advanced → List ℕ
-advanceState s (advanced.To c) = encodeOf c
-advanceState s (advanced.Refuse w) = s
-
 unfoldable pub advanceOf : List ℕ → ℕ → ℕ
 advanceOf s n = onState (λ c. advanceNumber (advance.advanceOf c n)) noState (decodeOf s)
-
-unfoldable pub stateAdvanced : List ℕ → ℕ → List ℕ
-stateAdvanced s n = onState (λ c. advanceState s (advance.advanceOf c n)) s (decodeOf s)

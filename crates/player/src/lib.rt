@@ -6,16 +6,17 @@ ghost use Rattle.header.specs.Check.{checkOf};
 ghost use Rattle.mount.specs.Mount as mounting;
 ghost use Rattle.bus.specs.Bus as bus;
 ghost use Rattle.bus.specs.Advance as advancing;
+ghost use Rattle.flat_write.specs.Calls.{stateWritten, areaWritten, stateAdvanced};
 ghost use Rattle.save_file.specs.Save as saving;
 ghost use Rattle.save_file.specs.Load as loading;
 ghost use Rattle.player.specs.Header.{kindNumber, hasTimer, hasRumble, Small, factsOf, headerOf, factsAfter};
-ghost use Rattle.player.specs.Bus.{mountNumber, mountState, mountOf, stateMounted, readNumber, readOf, writeNumber, writeState, writeOf, stateWritten, areaWritten, advanceNumber, advanceState, advanceOf, stateAdvanced};
+ghost use Rattle.player.specs.Bus.{mountNumber, mountState, mountOf, stateMounted, readNumber, readOf, writeOf, advanceOf};
 ghost use Rattle.player.specs.Save.{roomNumber, roomSize, sizeOf, sizeAsked, savedNumber, savedSize, saveOf, roomSaved, sizeSaved, loadedNumber, loadedState, loadedClock, loadOf, stateLoaded, areaLoaded, clockLoaded};
 ghost use Rattle.player.specs.Windows.{windowsIn, askedNumber, askedWindows, windowsNumber, windowsAfter, seenNumber, putNumber, windowRead, windowWrite, areaThrough};
-use bus::Advanced;
 use bus::ReadAnswer;
-use bus::WriteAnswer;
 use cartridge::Cartridge;
+use flat_write::Passed;
+use flat_write::Wrote;
 use header::Checked;
 use header::Facts;
 use mount::Mounted;
@@ -168,19 +169,6 @@ pub extern "C" fn imf_read(state: &[u8; 64], image: &[u8], ram: &[u8], addr: u16
     read_number(flat::read(state, image, ram, addr))
 }
 
-fn take_written(state: &mut [u8; 64], answer: WriteAnswer) -> u32
-    ensures { λ r. ⌜ r ≡ writeNumber answer ⌝ }
-    ensures { λ _. ⌜ now (state .exit) ≡ writeState (now (state .entry)) answer ⌝ }
-{
-    match answer {
-        WriteAnswer::Done(next) => {
-            states::encode(next, state);
-            0
-        }
-        WriteAnswer::Refuse(why) => why.number() as u32,
-    }
-}
-
 // A byte written to an address.
 #[no_mangle]
 pub extern "C" fn imf_write(state: &mut [u8; 64], ram: &mut [u8], addr: u16, byte: u8) -> u32
@@ -188,22 +176,9 @@ pub extern "C" fn imf_write(state: &mut [u8; 64], ram: &mut [u8], addr: u16, byt
     ensures { λ _. ⌜ now (state .exit) ≡ stateWritten (now (state .entry)) (now (ram .entry)) addr byte ⌝ }
     ensures { λ _. ⌜ now (ram .exit) ≡ areaWritten (now (state .entry)) (now (ram .entry)) addr byte ⌝ }
 {
-    match states::decode(state) {
-        Decoded::To(cart) => take_written(state, bus::write(cart, ram, addr, byte)),
-        Decoded::NoState => NO_STATE,
-    }
-}
-
-fn take_advanced(state: &mut [u8; 64], answer: Advanced) -> u32
-    ensures { λ r. ⌜ r ≡ advanceNumber answer ⌝ }
-    ensures { λ _. ⌜ now (state .exit) ≡ advanceState (now (state .entry)) answer ⌝ }
-{
-    match answer {
-        Advanced::To(next) => {
-            states::encode(next, state);
-            0
-        }
-        Advanced::Refuse(why) => why.number() as u32,
+    match flat_write::write(state, ram, addr, byte) {
+        Wrote::Done => 0,
+        Wrote::Refuse(why) => why.number() as u32,
     }
 }
 
@@ -213,9 +188,9 @@ pub extern "C" fn imf_advance(state: &mut [u8; 64], n: u64) -> u32
     ensures { λ r. ⌜ r ≡ advanceOf (now (state .entry)) n ⌝ }
     ensures { λ _. ⌜ now (state .exit) ≡ stateAdvanced (now (state .entry)) n ⌝ }
 {
-    match states::decode(state) {
-        Decoded::To(cart) => take_advanced(state, bus::advance(cart, n)),
-        Decoded::NoState => NO_STATE,
+    match flat_write::advance(state, n) {
+        Passed::Done => 0,
+        Passed::Refuse(why) => why.number() as u32,
     }
 }
 

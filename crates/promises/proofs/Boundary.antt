@@ -59,7 +59,8 @@ use Rattle.windows.proofs.Same.{
   windows-stay-in-advance,
 }
 use Rattle.states.specs.OnState.{onState}
-use Rattle.player.specs.Bus.{mountNumber, mountState, mountOf, stateMounted, readNumber, readOf, writeNumber, writeState, writeOf, stateWritten, areaWritten, advanceNumber, advanceState, advanceOf, stateAdvanced}
+use Rattle.flat_write.specs.Calls.{writeState, stateWritten, areaWritten, advanceState, stateAdvanced}
+use Rattle.player.specs.Bus.{mountNumber, mountState, mountOf, stateMounted, readNumber, readOf, writeNumber, writeOf, advanceNumber, advanceOf}
 use Rattle.player.specs.Save.{savedNumber, savedSize, saveOf, roomSaved, sizeSaved, loadedNumber, loadedState, loadedClock, loadOf, stateLoaded, areaLoaded, clockLoaded}
 use Rattle.player.specs.Windows.{windowsIn, seenNumber, putNumber, askedWindows, windowsAfter, windowRead, windowWrite, areaThrough}
 use Rattle.runs.proofs.BusLaws as laws

@@ -2,26 +2,31 @@
 -- Assumes nothing.
 use mathlib.Core.List.{List}
 use Prim.Native.Nat.{ℕ}
+use Rattle.mapper.specs.declared.Mapper.{Mapper}
 use Rattle.cartridge.specs.declared.Cartridge.{Cartridge}
 use Rattle.access.specs.declared.BusRefusal.the-variants.{Unfit}
 use Rattle.bus.specs.Bus as reading
 use Rattle.bus.specs.declared.ReadAnswer.the-variants as read
 use Rattle.states.specs.OnState.{onState}
 use Rattle.states.specs.Layout.{encodeOf}
-use Rattle.states.specs.Reading.{decodeOf}
+use Rattle.states.specs.Reading.{cartIn, decodeOf}
 use Rattle.windows.specs.Windows as windows
 use Rattle.windows.specs.Through as through
 use Rattle.windows.specs.declared.Windows.{Windows}
 use Rattle.windows.specs.declared.Asked.the-variants as asked
+use Rattle.flat_write.specs.Calls as changing
 use Rattle.player.specs.Header as header
 use Rattle.player.specs.Bus as bus
 use Rattle.player.specs.Save as save
 use Rattle.player.specs.Windows as windowing
 use Rattle.promises.proofs.Coincide.{Coincide, any-two}
 
--- `states::encode` and `decode`
+-- `states::encode`, `put` and `decode`
 pub encode-coincides : (c : Cartridge) → Coincide (encodeOf c)
 encode-coincides c = any-two (encodeOf c)
+
+pub put-coincides : (s : List ℕ) (m : Mapper) → Coincide (encodeOf (cartIn s m))
+put-coincides s m = any-two (encodeOf (cartIn s m))
 
 pub decode-coincides : (s : List ℕ) → Coincide (decodeOf s)
 decode-coincides s = any-two (decodeOf s)
@@ -31,6 +36,13 @@ pub flat-read-coincides : (s rom ram : List ℕ) (addr : ℕ)
     → Coincide (onState (λ c. reading.readOf c rom ram addr) (read.Refuse Unfit) (decodeOf s))
 flat-read-coincides s rom ram addr =
     any-two (onState (λ c. reading.readOf c rom ram addr) (read.Refuse Unfit) (decodeOf s))
+
+-- `flat_write::write` and `advance`: the answers; the state and the area are those of `imf_write` and `imf_advance` below
+pub flat-write-coincides : (s ram : List ℕ) (addr byte : ℕ) → Coincide (changing.wroteOf s ram addr byte)
+flat-write-coincides s ram addr byte = any-two (changing.wroteOf s ram addr byte)
+
+pub flat-advance-coincides : (s : List ℕ) (n : ℕ) → Coincide (changing.passedOf s n)
+flat-advance-coincides s n = any-two (changing.passedOf s n)
 
 -- `windows::of`
 pub windows-of-coincides : (c : Cartridge) → Coincide (windows.askOf c)
@@ -70,17 +82,17 @@ imf-read-coincides s rom ram addr = any-two (bus.readOf s rom ram addr)
 pub imf-write-coincides : (s ram : List ℕ) (addr byte : ℕ) → Coincide (bus.writeOf s ram addr byte)
 imf-write-coincides s ram addr byte = any-two (bus.writeOf s ram addr byte)
 
-pub imf-write-state-coincides : (s ram : List ℕ) (addr byte : ℕ) → Coincide (bus.stateWritten s ram addr byte)
-imf-write-state-coincides s ram addr byte = any-two (bus.stateWritten s ram addr byte)
+pub imf-write-state-coincides : (s ram : List ℕ) (addr byte : ℕ) → Coincide (changing.stateWritten s ram addr byte)
+imf-write-state-coincides s ram addr byte = any-two (changing.stateWritten s ram addr byte)
 
-pub imf-write-area-coincides : (s ram : List ℕ) (addr byte : ℕ) → Coincide (bus.areaWritten s ram addr byte)
-imf-write-area-coincides s ram addr byte = any-two (bus.areaWritten s ram addr byte)
+pub imf-write-area-coincides : (s ram : List ℕ) (addr byte : ℕ) → Coincide (changing.areaWritten s ram addr byte)
+imf-write-area-coincides s ram addr byte = any-two (changing.areaWritten s ram addr byte)
 
 pub imf-advance-coincides : (s : List ℕ) (n : ℕ) → Coincide (bus.advanceOf s n)
 imf-advance-coincides s n = any-two (bus.advanceOf s n)
 
-pub imf-advance-state-coincides : (s : List ℕ) (n : ℕ) → Coincide (bus.stateAdvanced s n)
-imf-advance-state-coincides s n = any-two (bus.stateAdvanced s n)
+pub imf-advance-state-coincides : (s : List ℕ) (n : ℕ) → Coincide (changing.stateAdvanced s n)
+imf-advance-state-coincides s n = any-two (changing.stateAdvanced s n)
 
 -- `imf_save_size`: the number, and the size; `imf_save_out`: the number, the room and the size; `imf_save_in`: the number, the state,
 -- the area and whether the clock came

@@ -1,59 +1,48 @@
--- `player::imf_advance` meets its contract: the bus's advance on what the bytes are. Assumes nothing.
+-- `player::imf_advance` meets its contract: clocks that pass on the bytes, the answer as a number. Assumes nothing.
 use borrow.Author.Needs.{needs}
 use Rattle.player.proofs.imf_advance.Statement.{statement}
 use Rattle.player.proofs.imf_advance.Tie as tie
-use mathlib.Core.Path.{ap, _∙_}
+use mathlib.Core.Path.{_∙_}
 use denote.Ref.{now}
-use Rattle.bus.specs.Advance as below
-use Rattle.player.specs.Bus.{advanceNumber, advanceState, advanceOf, stateAdvanced}
-use Rattle.player.proofs.Laws.{on-cartridge, on-none}
-
-decode-requires : tie.Need-decode-requires
-decode-requires c κs = search needs
-
-enum-known-cart : tie.Need-enum-known-cart
-enum-known-cart c = search needs
+use Rattle.player.proofs.Laws.{advance-number}
 
 advance-requires : tie.Need-advance-requires
 advance-requires c κs = search needs
 
-take-advanced-requires : tie.Need-take-advanced-requires
-take-advanced-requires c κs = search needs
-
 enum-told : tie.Need-enum-told
 enum-told c = search needs
 
+enum-known-why : tie.Need-enum-known-why
+enum-known-why c = search needs
+
+number-requires : tie.Need-number-requires
+number-requires c κs = search needs
+
+cast-result : tie.Need-cast-result
+cast-result c = search needs
+
 returns : tie.Need-returns
-unfolding advanceOf stateAdvanced
-returns c = let d = c .before .before .before .before in
-    let a = d .before .before .before .before .args in
-    let s = now (a .state) in
-    let e = d .before .before .decode .ensures in
-    let g = d .cart .given .1 in (
-      c .take-advanced .ensures .0 ∙ ap advanceNumber (c .before .advance .ensures)
-          ∙ on-cartridge (λ k. advanceNumber (below.advanceOf k (a .n))) 13 s e g,
-      c .take-advanced .ensures .1 ∙ ap (advanceState s) (c .before .advance .ensures)
-          ∙ on-cartridge (λ k. advanceState s (below.advanceOf k (a .n))) s s e g,
-    )
+returns c =
+    let d = c .before .before in
+    let a = d .before .before .args in
+    (advance-number (now (a .state)) (a .n) (d .advance .ensures .0) (c .enum-told .given .1), d .advance .ensures .1)
 
 returns-2 : tie.Need-returns-2
-unfolding advanceOf stateAdvanced
-returns-2 c = let a = c .before .before .before .before .args in
-    let s = now (a .state) in
-    let e = c .before .before .decode .ensures in
-    let g = c .enum-told .given .1 in (
-      on-none (λ k. advanceNumber (below.advanceOf k (a .n))) 13 s e g,
-      on-none (λ k. advanceState s (below.advanceOf k (a .n))) s s e g,
+returns-2 c =
+    let d = c .before .before .before .before in
+    let a = d .before .before .args in (
+      c .number .ensures ∙ advance-number (now (a .state)) (a .n) (d .advance .ensures .0) (c .before .before .why .given .1),
+      d .advance .ensures .1,
     )
 
 pub imf-advance-spec : {M : Type 1} → statement M
 imf-advance-spec =
     tie.close
     (tie.spec
-    decode-requires
-    enum-known-cart
     advance-requires
-    take-advanced-requires
     enum-told
+    enum-known-why
+    number-requires
+    cast-result
     returns
     returns-2)
