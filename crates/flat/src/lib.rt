@@ -1,6 +1,6 @@
 // What a call needs, straight from the bytes of a state. No cartridge is built: each function looks at the bytes of the state's kind,
 // and answers as the cartridge would that they are.
-ghost use mathlib.Core.Bool.{true, not};
+ghost use mathlib.Core.Bool.{true, false, not};
 ghost use mathlib.Core.Path.{_≡_};
 ghost use Prim.Native.Nat.{_+_, _≤_};
 ghost use lib.Dec.{eqb};
@@ -228,8 +228,20 @@ fn half_byte(m: Mbc2, size: usize, ram: &[u8], addr: u16) -> u8
     m.read_half(&ram[size..], addr)
 }
 
+// Without a timer nothing stands where RAM is not selected. It is asked apart from the timed kind, whose clock is then read in place.
+fn untimed_byte(m: Mbc3, size: usize, ram: &[u8], addr: u16) -> u8
+    requires { ⌜ length (now ram) ≡ size ⌝ }
+    requires { ⌜ m .timer ≡ false ⌝ }
+    ensures { λ r. ⌜ r ≡ window.readOf (by.Mbc3 m) size (now (ram .entry)) addr ⌝ }
+{
+    if m.memory {
+        return window::load(ram, m.ram_at(size, addr));
+    }
+    0xFF
+}
+
 // The RAM bank, or what stands where RAM is not selected.
-fn selected(m: Mbc3, size: usize, ram: &[u8], addr: u16) -> u8
+fn timed_byte(m: Mbc3, size: usize, ram: &[u8], addr: u16) -> u8
     requires { ⌜ length (now ram) ≡ size ⌝ }
     ensures { λ r. ⌜ r ≡ window.readOf (by.Mbc3 m) size (now (ram .entry)) addr ⌝ }
 {
@@ -250,8 +262,8 @@ fn ram_byte(s: &[u8], kind: u8, ram: &[u8], addr: u16) -> u8
         1 => window::load(ram, mbc1_in(s, false).ram_at(size, addr)),
         2 => window::load(ram, mbc1_in(s, true).ram_at(size, addr)),
         3 => half_byte(mbc2_in(s), size, ram, addr),
-        4 => selected(untimed_in(s), size, ram, addr),
-        5 => selected(timed_in(s), size, ram, addr),
+        4 => untimed_byte(untimed_in(s), size, ram, addr),
+        5 => timed_byte(timed_in(s), size, ram, addr),
         6 => window::load(ram, mbc5_in(s).ram_at(size, addr)),
         _ => window::load(ram, NoMapper::new().ram_at(size, addr)),
     }

@@ -4,6 +4,7 @@ use Rattle.flat.proofs.ram_byte.Statement.{statement}
 use Rattle.flat.proofs.ram_byte.Tie as tie
 use mathlib.Core.Path.{refl, ap, _∙_}
 use denote.Ref.{now}
+use Rattle.mbc3.specs.declared.Mbc3 as mbc3-state
 use Rattle.mapper.specs.declared.Mapper.the-variants.{NoMapper, Mbc1, Mbc2, Mbc3, Mbc5}
 use Rattle.window.specs.Window as window
 use Rattle.window.specs.Window.{loaded}
@@ -63,17 +64,19 @@ half-byte-requires c κs = let b = c .before .before .before .before .before in
 untimed-in-requires : tie.Need-untimed-in-requires
 untimed-in-requires c κs = search needs
 
-selected-requires : tie.Need-selected-requires
+untimed-byte-requires : tie.Need-untimed-byte-requires
 unfolding mapperAt
-selected-requires c κs = let b = c .before .before .before .before .before in
-    area-at (now (b .args .s)) (c .before .match .keys5) (ap Mbc3 (c .untimed-in .ensures)) (c .before .before .read-u64 .ensures) (b .pre .1)
+untimed-byte-requires c κs = let b = c .before .before .before .before .before in (
+  area-at (now (b .args .s)) (c .before .match .keys5) (ap Mbc3 (c .untimed-in .ensures)) (c .before .before .read-u64 .ensures) (b .pre .1),
+  ap (λ (m : mbc3-state.Mbc3). m .timer) (c .untimed-in .ensures),
+)
 
 timed-in-requires : tie.Need-timed-in-requires
 timed-in-requires c κs = search needs
 
-selected-requires-2 : tie.Need-selected-requires-2
+timed-byte-requires : tie.Need-timed-byte-requires
 unfolding mapperAt
-selected-requires-2 c κs = let b = c .before .before .before .before .before in
+timed-byte-requires c κs = let b = c .before .before .before .before .before in
     area-at (now (b .args .s)) (c .before .match .keys6) (ap Mbc3 (c .timed-in .ensures)) (c .before .before .read-u64 .ensures) (b .pre .1)
 
 mbc5-in-requires : tie.Need-mbc5-in-requires
@@ -130,12 +133,12 @@ returns-4 c = let a = c .before .before .before .before .before .before .args in
 returns-5 : tie.Need-returns-5
 unfolding mapperAt
 returns-5 c = let a = c .before .before .before .before .before .before .args in
-    read-at (now (a .s)) (now (a .ram)) (a .addr) (c .before .before .match .keys5) (ap Mbc3 (c .before .untimed-in .ensures)) (c .before .before .before .read-u64 .ensures) (c .selected .ensures)
+    read-at (now (a .s)) (now (a .ram)) (a .addr) (c .before .before .match .keys5) (ap Mbc3 (c .before .untimed-in .ensures)) (c .before .before .before .read-u64 .ensures) (c .untimed-byte .ensures)
 
 returns-6 : tie.Need-returns-6
 unfolding mapperAt
 returns-6 c = let a = c .before .before .before .before .before .before .args in
-    read-at (now (a .s)) (now (a .ram)) (a .addr) (c .before .before .match .keys6) (ap Mbc3 (c .before .timed-in .ensures)) (c .before .before .before .read-u64 .ensures) (c .selected2 .ensures)
+    read-at (now (a .s)) (now (a .ram)) (a .addr) (c .before .before .match .keys6) (ap Mbc3 (c .before .timed-in .ensures)) (c .before .before .before .read-u64 .ensures) (c .timed-byte .ensures)
 
 returns-7 : tie.Need-returns-7
 unfolding mapperAt window.readOf
@@ -170,9 +173,9 @@ ram-byte-spec =
     mbc2-in-requires
     half-byte-requires
     untimed-in-requires
-    selected-requires
+    untimed-byte-requires
     timed-in-requires
-    selected-requires-2
+    timed-byte-requires
     mbc5-in-requires
     ram-at-requires-4
     load-requires-4
