@@ -44,7 +44,7 @@ impl MountRefusal {
 }
 
 // The mapper at its start. The last three kinds were refused before.
-fn start(kind: Kind, multicart: bool, wall: u64) -> Mapper
+pub fn start(kind: Kind, multicart: bool, wall: u64) -> Mapper
     ensures { λ r. ⌜ r ≡ startOf kind multicart wall ⌝ }
 {
     match kind {

@@ -2,25 +2,19 @@
 use mathlib.Core.Bool.{Bool, true, false}
 use mathlib.Core.List.{List, [], _∷_}
 use Prim.Native.Nat.{ℕ, _≤_}
-use Rattle.facts.specs.Choice.{pick, bit}
+use Rattle.facts.specs.Choice.{bit}
 use Rattle.types.specs.declared.Kind.{Kind}
 use Rattle.types.specs.declared.Kind.the-variants as kind
 use Rattle.header.specs.Check.{numberOf, checkOf}
 use Rattle.header.specs.declared.Facts.{Facts}
 use Rattle.header.specs.declared.Checked.{Checked}
 use Rattle.header.specs.declared.Checked.the-variants.{Accept, Refuse}
-use Rattle.mount.specs.Mount.{areaIn}
+use Rattle.mount.specs.Mount.{startOf, areaIn}
+use Rattle.states.specs.Layout.{kindOf}
 
--- the kinds as `states` numbers them; the last three are refused with 10
+-- the kind as the state has it that mounting gives
 abbrev pub kindNumber : Kind → Bool → ℕ
-kindNumber kind.NoMapper multicart = 0
-kindNumber kind.Mbc1 multicart = pick multicart 2 1
-kindNumber kind.Mbc2 multicart = 3
-kindNumber (kind.Mbc3 timer) multicart = pick timer 5 4
-kindNumber (kind.Mbc5 rumble) multicart = 6
-kindNumber kind.Mmm01 multicart = 7
-kindNumber kind.Mbc6 multicart = 8
-kindNumber kind.Mbc7 multicart = 9
+kindNumber k multicart = kindOf (startOf k multicart 0)
 
 abbrev pub hasTimer : Kind → Bool
 hasTimer kind.NoMapper = false

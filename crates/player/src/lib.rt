@@ -39,30 +39,11 @@ const NO_STATE: u32 = 13;
 // An answer that is no refusal: the windows cannot say, the state can.
 const ASK: u32 = 0x200;
 
-// The kinds as the state has them. Those from 7 on were refused before.
+// The number that a state of this kind has.
 fn kind_number(kind: Kind, multicart: bool) -> u32
     ensures { λ r. ⌜ r ≡ kindNumber kind multicart ⌝ }
 {
-    match kind {
-        Kind::NoMapper => 0,
-        Kind::Mbc1 => {
-            if multicart {
-                return 2;
-            }
-            1
-        }
-        Kind::Mbc2 => 3,
-        Kind::Mbc3 { timer } => {
-            if timer {
-                return 5;
-            }
-            4
-        }
-        Kind::Mbc5 { rumble: _ } => 6,
-        Kind::Mmm01 => 7,
-        Kind::Mbc6 => 8,
-        Kind::Mbc7 => 9,
-    }
+    states::kind_of(mount::start(kind, multicart, 0)) as u32
 }
 
 fn has_timer(kind: Kind) -> bool

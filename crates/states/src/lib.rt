@@ -33,7 +33,7 @@ pub enum Decoded {
     NoState,
 }
 
-fn kind_of(m: Mapper) -> u8
+pub fn kind_of(m: Mapper) -> u8
     ensures { λ r. ⌜ r ≡ kindOf m ⌝ }
 {
     match m {
