@@ -2,10 +2,10 @@
 use mathlib.Core.List.{List, [], _∷_}
 use mathlib.Core.Bool.{Bool, true, false}
 use mathlib.Core.Path.{_≡_, refl, sym, ap, _∙_}
-use Prim.Native.Nat.{ℕ, zero, suc, _≤_}
+use Prim.Native.Nat.{ℕ, _≤_}
 use native.Mathlib.Omega.{arith}
 use lib.Dec.{eqb}
-use lib.ListN.{length, take, drop}
+use lib.ListN.{length, take, drop, length-take}
 use Rattle.facts.specs.Choice.{pick}
 use Rattle.facts.proofs.ListLaws.{one-of-le}
 use Rattle.image.specs.Image.{upToZero, titleOf}
@@ -100,15 +100,10 @@ up-to-zero-le (x ∷ l) = go (eqb x 0) (up-to-zero-le l)
     go true h = omega arith
     go false h = omega arith
 
-take-le : (n : ℕ) (l : List ℕ) → length (take n l) ≤ n
-take-le zero l = omega arith
-take-le (suc n) [] = omega arith
-take-le (suc n) (x ∷ l) = let h = take-le n l in omega arith
-
 title-le : (s : List ℕ) → length (titleOf s) ≤ 15
 unfolding titleOf
 title-le s =
-    let l = drop 0x134 s in omega (arith, up-to-zero-le (take 15 l), take-le 15 l)
+    let l = drop 0x134 s in omega (arith, up-to-zero-le (take 15 l), length-take 15 l)
 
 pub accepted-small : (s : List ℕ) {x : Checked} {d : Facts} → x ≡ checkOf s → x ≡ Accept d → Small d
 unfolding factsOf

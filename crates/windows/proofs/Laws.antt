@@ -2,10 +2,11 @@
 use mathlib.Core.Bool.{Bool, true, false}
 use mathlib.Core.List.{List, [], _∷_}
 use mathlib.Core.Path.{_≡_, refl, sym, ap, _∙_}
-use Prim.Native.Nat.{ℕ, zero, suc, _+_, _*_, _%_, _<_, _≤_}
+use Prim.Native.Nat.{ℕ, _+_, _%_, _<_, _≤_}
 use native.Mathlib.Omega.{arith}
 use lib.Dec.{ltb}
 use lib.ListN.{length, getD, set, List·getD-eq-default}
+use lib.Seq.{getD-set-same, set-getD}
 use borrow.Author.Tests.{lt-ltb, le-ltb}
 use Rattle.facts.specs.Choice.{pick}
 use Rattle.banking.specs.Banks.{Inside, romPlace}
@@ -58,14 +59,7 @@ fit-stands c e = record { some = fit-banks c e; few = fit-count c e; small = fit
 -- ---- a byte, or what stands beyond
 
 pub other-default : (l : List ℕ) (i a b : ℕ) → i < length l → getD l i a ≡ getD l i b
-other-default [] i a b h = absurd (omega arith)
-other-default (x ∷ xs) zero a b h = refl
-other-default (x ∷ xs) (suc i) a b h = other-default xs i a b (omega arith)
-
-pub set-beyond : (l : List ℕ) (i b : ℕ) → length l ≤ i → set l i b ≡ l
-set-beyond [] i b h = refl
-set-beyond (x ∷ xs) zero b h = absurd (omega arith)
-set-beyond (x ∷ xs) (suc i) b h = ap (λ (l : List ℕ). x ∷ l) (set-beyond xs i b (omega arith))
+other-default l i a b h = sym (getD-set-same l i (getD l i a) b h) ∙ ap (λ (k : List ℕ). getD k i b) (set-getD l i a)
 
 -- ---- a read by its address
 
