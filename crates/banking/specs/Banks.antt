@@ -1,5 +1,5 @@
 -- Where an address falls, by a bank taken modulo the number of banks (document 01, "The bus").
-use mathlib.Core.Bool.{Bool, true, false}
+use mathlib.Core.Bool.{Bool}
 use Prim.Native.Nat.{ℕ, _/_, _%_, _<_}
 use lib.Dec.{eqb, ltb, leb}
 use Rattle.facts.specs.Choice.{pick, both}

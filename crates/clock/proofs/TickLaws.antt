@@ -1,8 +1,8 @@
 -- n ticks of a clock that is not halted are n steps of the sub-second, and as many seconds as those carry. A halted
 -- clock stays. Assumes nothing.
 use mathlib.Core.Bool.{Bool, true, false}
-use mathlib.Core.Path.{_≡_, refl, sym, ap, _∙_, subst}
-use Prim.Native.Nat.{ℕ, zero, suc, _+_, _*_, _≤_}
+use mathlib.Core.Path.{_≡_, refl, sym, ap, _∙_}
+use Prim.Native.Nat.{ℕ, zero, suc, _+_, _≤_}
 use native.Mathlib.Nat.{add-zero, add-suc, add-assoc, le-refl, le-trans}
 use native.Mathlib.Numerals.{add-one}
 use native.Mathlib.Omega.{arith}
@@ -14,7 +14,7 @@ use Rattle.clock_registers.specs.Seconds.{secondOn, secondsOn}
 use Rattle.clock.specs.Ticking.{clocks, moving, tick, ticks}
 use Rattle.clock_registers.specs.declared.Registers.{Registers}
 use Rattle.clock.specs.declared.Clock.{Clock}
-use Rattle.clock.proofs.FitLaws.{FitClock, fit-parts, parts-fit}
+use Rattle.clock.proofs.FitLaws.{fit-parts, parts-fit}
 use Rattle.clock_registers.proofs.SecondLaws.{seconds-halt, seconds-fit}
 
 -- the whole seconds in n ticks

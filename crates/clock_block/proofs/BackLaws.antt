@@ -3,7 +3,7 @@
 use mathlib.Core.Bool.{true}
 use mathlib.Core.List.{List, _++_}
 use mathlib.Core.Path.{_≡_, refl, sym, ap, _∙_}
-use Prim.Native.Nat.{ℕ, zero, suc, _+_, _-_, _^_, _<_, _≤_}
+use Prim.Native.Nat.{ℕ, _+_, _-_, _^_, _<_, _≤_}
 use native.Mathlib.Omega.{arith}
 use lib.ListN.{length, take, drop}
 use lib.Seq.{take-add, drop-drop}
@@ -11,12 +11,11 @@ use Rattle.bytes_le.specs.Little.{bytesOf, fieldAt, Octets}
 use Rattle.bytes_le.proofs.FieldLaws.{field-behind, field-first, bytes-field}
 use Rattle.clock_registers.specs.Seconds.{secondsOn}
 use Rattle.clock_registers.specs.Fit.{fitRegisters}
-use Rattle.clock_registers.proofs.FitLaws.{fit-bounds}
 use Rattle.clock_registers.proofs.SecondLaws.{seconds-fit}
 use Rattle.clock.specs.Fit.{fitClock}
 use Rattle.clock.specs.declared.Clock.{Clock}
 use Rattle.clock.proofs.FitLaws.{parts-fit}
-use Rattle.clock_block.specs.Layout.{block, blockBytes, blockIn}
+use Rattle.clock_block.specs.Layout.{blockBytes, blockIn}
 use Rattle.clock_block.specs.Waking.{blockOf, takenOf, timeOf, wokenOf}
 use Rattle.clock_block.specs.declared.Block.{Block}
 use Rattle.clock_block.proofs.Laws.{block-of}

@@ -1,5 +1,5 @@
 -- Modulo banking is within: the one law behind every mapped place. Assumes nothing.
-use Prim.Native.Nat.{ℕ, _*_, _%_, _<_}
+use Prim.Native.Nat.{ℕ, _*_, _<_}
 use native.Mathlib.Nat.{mod-lt, mul-le-mul-right}
 use native.Mathlib.Omega.{arith}
 use Rattle.facts.specs.Banking.{placeOf}

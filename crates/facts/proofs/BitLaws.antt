@@ -1,13 +1,13 @@
 -- Masks and joined bits: what shifts, masks and ors of the code come to in numbers. Assumes nothing.
 use mathlib.Core.Bool.{Bool, true, false, not}
-use mathlib.Core.Path.{_≡_, refl, sym, ap, _∙_}
+use mathlib.Core.Path.{_≡_, refl, ap, _∙_}
 use Prim.Native.Nat.{ℕ, zero, suc, _+_, _-_, _*_, _/_, _%_, _^_, _<_, _≤_}
-use native.Mathlib.Nat.{zero-mul, one-mul, mul-one, pow-suc}
+use native.Mathlib.Nat.{zero-mul, one-mul}
 use native.Mathlib.Omega.{arith}
 use lib.Dec.{eqb}
-use lib.Bits.{bitAnd, bitOr, and-mask, and-high, or-shifted, or-shifted-r}
+use lib.Bits.{bitAnd, bitOr, and-high, or-shifted, or-shifted-r}
 use lib.Pow.{shl-exact, pow-pos}
-use borrow.Author.Tests.{eq-eqb, ne-eqb}
+use borrow.Author.Tests.{ne-eqb}
 use mir.Val.{boolByte}
 use Rattle.facts.specs.Choice.{bit}
 

@@ -1,14 +1,14 @@
--- Lists: a number among others, and the part of a slice from a place on. Assumes nothing.
+-- Lists: a number among others, an element that is there, and the part of a slice from a place on. Assumes nothing.
 use mathlib.Core.Bool.{Bool, true, false}
 use mathlib.Core.List.{List, [], _∷_, _++_, append-nil}
 use mathlib.Core.Logic.{_⊎_, inl, inr}
 use mathlib.Core.Path.{_≡_, refl, sym, ap, _∙_}
-use Prim.Native.Nat.{ℕ, zero, suc, _+_, _-_, _≤_}
+use Prim.Native.Nat.{ℕ, zero, suc, _+_, _-_, _<_, _≤_}
 use native.Mathlib.Nat.{zero-add, suc-add}
 use native.Mathlib.Omega.{arith}
 use lib.Dec.{leb, eqb}
-use lib.ListN.{length, set, take, drop, length-drop, drop-of-length-le}
-use lib.Seq.{take-all}
+use lib.ListN.{length, getD, set, take, drop, length-drop, drop-of-length-le}
+use lib.Seq.{take-all, getD-set-same, set-getD}
 use borrow.Author.Tests.{eq-eqb, ne-eqb, eqb-true, leb-true}
 use borrow.Rule.Slice.PartMut.{putMid}
 use Rattle.facts.specs.Choice.{both, either}
@@ -45,6 +45,11 @@ one-of-le b n (a ∷ l) h e = go (eqb n a) refl e (one-of-le b n l (both-right (
     go : (t : Bool) → eqb n a ≡ t → either t (oneOf n l) ≡ true → (oneOf n l ≡ true → n ≤ b) → n ≤ b
     go true q e f = omega (arith, eqb-true n a q, leb-true a b (both-left (leb a b) (allLe l b) h))
     go false q e f = f e
+
+-- ---- an element that is there is the same whatever stands for the others
+
+pub other-default : (l : List ℕ) (i a b : ℕ) → i < length l → getD l i a ≡ getD l i b
+other-default l i a b h = sym (getD-set-same l i (getD l i a) b h) ∙ ap (λ (k : List ℕ). getD k i b) (set-getD l i a)
 
 -- ---- the part from the k-th element on, `&s[k..]`, and the list with another such part put back
 

@@ -22,7 +22,6 @@ use Rattle.access.specs.declared.BusRefusal.the-variants.{Unfit}
 use Rattle.access.proofs.Laws.{by-tests}
 use Rattle.bus.specs.Bus.{writeVerdict, writeBy, areaBy, writeOf, areaAfter}
 use Rattle.bus.specs.Advance.{advanceOf, fromMapper}
-use Rattle.bus.specs.declared.Advanced.{Advanced}
 use Rattle.bus.proofs.Laws.{write-answered, area-answered, write-area, unfit-answer, mapper-answer}
 use Rattle.states.specs.Layout.{encodeOf}
 use Rattle.states.specs.Reading.{cartIn}
@@ -118,14 +117,14 @@ module _ (s ram : List ℕ) (addr byte : ℕ) {k : ℕ} {f : Bool} (p : k ≡ fi
   pub unfit-written : not f ≡ true → Written (wrote.Refuse Unfit) s ram
   unfolding wroteOf stateWritten areaWritten writeOf areaAfter
   unfit-written h =
-      let c = cartAt s k in (
+      let x = cartAt s k in (
         unfit-call s p q (λ c. wroteBy (writeOf c ram addr byte)) (wrote.Refuse Unfit)
-            (λ e. ap (λ (v : Verdict). wroteBy (writeBy c addr byte v)) (unfit-verdict c ram addr byte e)) h,
+            (λ e. ap (λ (v : Verdict). wroteBy (writeBy x addr byte v)) (unfit-verdict x ram addr byte e)) h,
         (
           unfit-call s p q (λ c. writeState s (writeOf c ram addr byte)) s
-              (λ e. ap (λ (v : Verdict). writeState s (writeBy c addr byte v)) (unfit-verdict c ram addr byte e)) h,
+              (λ e. ap (λ (v : Verdict). writeState s (writeBy x addr byte v)) (unfit-verdict x ram addr byte e)) h,
           unfit-call s p q (λ c. areaAfter c ram addr byte) ram
-              (λ e. ap (areaBy c ram addr byte) (unfit-verdict c ram addr byte e)) h,
+              (λ e. ap (areaBy x ram addr byte) (unfit-verdict x ram addr byte e)) h,
         ),
       )
 
@@ -151,9 +150,9 @@ module _ (s : List ℕ) (n : ℕ) {k : ℕ} {f : Bool} (p : k ≡ fieldAt 1 s 0)
   pub unfit-clocked : not f ≡ true → Clocked (passed.Refuse advance.Unfit) s
   unfolding passedOf stateAdvanced
   unfit-clocked h =
-      let c = cartAt s k in (
-        unfit-call s p q (λ c. passedBy (advanceOf c n)) (passed.Refuse advance.Unfit) (λ e. ap passedBy (unfit-answer c n e)) h,
-        unfit-call s p q (λ c. advanceState s (advanceOf c n)) s (λ e. ap (advanceState s) (unfit-answer c n e)) h,
+      let x = cartAt s k in (
+        unfit-call s p q (λ c. passedBy (advanceOf c n)) (passed.Refuse advance.Unfit) (λ e. ap passedBy (unfit-answer x n e)) h,
+        unfit-call s p q (λ c. advanceState s (advanceOf c n)) s (λ e. ap (advanceState s) (unfit-answer x n e)) h,
       )
 
   module _ (h : not f ≡ false) {m : Mapper} (g : m ≡ mapperAt s k) where

@@ -1,13 +1,12 @@
 -- The answers of the three parts of the verdict, over plain variables. Assumes nothing.
 use mathlib.Core.Bool.{Bool, true, false, not}
-use mathlib.Core.Path.{_≡_, refl, sym, ap, _∙_}
-use mathlib.Core.List.{List, [], _∷_}
+use mathlib.Core.Path.{_≡_, _∙_}
+use mathlib.Core.List.{List}
 use Prim.Native.Nat.{ℕ, _/_, _<_, _≤_}
-use native.Mathlib.Omega.{arith}
-use lib.Dec.{eqb, ltb}
+use lib.Dec.{ltb}
 use lib.ListN.{length}
 use borrow.Author.Tests.{eq-eqb, ne-eqb, lt-ltb, le-ltb}
-use Rattle.facts.specs.Choice.{pick, both, either}
+use Rattle.facts.specs.Choice.{both}
 use Rattle.types.specs.Types.{typeOf, supportedOf, beyondOf}
 use Rattle.image.specs.Image.{byteAt, paddedLength, logoAt, checksumOf, titleOf}
 use Rattle.header.specs.Size.{romFits, ramSizeOf}

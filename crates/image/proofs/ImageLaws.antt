@@ -2,7 +2,7 @@
 use mathlib.Core.Bool.{Bool, true, false}
 use mathlib.Core.Path.{_≡_, refl, sym, ap, _∙_}
 use mathlib.Core.List.{List, [], _∷_, _++_, append-assoc, append-nil}
-use Prim.Native.Nat.{ℕ, zero, suc, _+_, _-_, _%_, _<_, _≤_}
+use Prim.Native.Nat.{ℕ, suc, _+_, _-_, _%_, _<_, _≤_}
 use native.Mathlib.Nat.{add-suc, add-zero}
 use native.Mathlib.Numerals.{add-one}
 use native.Mathlib.Omega.{arith}
@@ -118,6 +118,19 @@ passes-on s e k h l v n =
 pub title-none : (s : List ℕ) → length s < 308 → [] ≡ titleOf s
 unfolding titleOf upToZero
 title-none s h = let e : drop 308 s ≡ [] = drop-of-length-le s {i = 308} (omega arith) in rw e
+
+up-to-zero-le : (l : List ℕ) → length (upToZero l) ≤ length l
+unfolding upToZero
+up-to-zero-le [] = omega arith
+up-to-zero-le (x ∷ l) = go (eqb x 0) (up-to-zero-le l)
+  where
+    go : (b : Bool) → length (upToZero l) ≤ length l → length (pick b [] (x ∷ upToZero l)) ≤ length (x ∷ l)
+    go true h = omega arith
+    go false h = omega arith
+
+pub title-le : (s : List ℕ) → length (titleOf s) ≤ 15
+unfolding titleOf
+title-le s = let l = drop 308 s in omega (arith, up-to-zero-le (take 15 l), length-take 15 l)
 
 -- ---- the quarters
 

@@ -2,7 +2,7 @@
 // flag and the header's checksum. Nothing is copied, and nothing is read but the bytes asked for.
 ghost use mathlib.Core.Path.{_≡_};
 ghost use Prim.Native.Nat.{_-_, _<_, _≤_};
-ghost use lib.ListN.{getD, length, take, drop};
+ghost use lib.ListN.{getD, length};
 ghost use Rattle.image.specs.Image.{byteAt, paddedLength, logo, logoAt, isMulticart, checksumOf, TitleEnd, titleOf, isColour};
 use facts::both;
 

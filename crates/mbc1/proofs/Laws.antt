@@ -11,7 +11,7 @@ use Rattle.facts.proofs.ChoiceLaws.{both-parts, both-true, pick-has}
 use Rattle.facts.proofs.BitLaws.{join-above}
 use Rattle.banking.specs.Banks.{orOne, fromOne, ramPlace, Inside}
 use Rattle.banking.proofs.Laws.{or-one-within, ram-inside, picked-inside}
-use Rattle.mbc1.specs.Registers.{start, lowOf, written, twoAt, bank0, bankX, ramBank, ramAt, fitRegisters}
+use Rattle.mbc1.specs.Registers.{start, lowOf, written, twoAt, bankX, ramBank, ramAt, fitRegisters}
 use Rattle.mbc1.specs.declared.Mbc1.{Mbc1}
 
 -- ---- the bounds of fit registers

@@ -1,5 +1,5 @@
 -- MBC1's registers and what they select (document 01, "The bus").
-use mathlib.Core.Bool.{Bool, true, false}
+use mathlib.Core.Bool.{Bool, false}
 use Prim.Native.Nat.{ℕ, _+_, _*_, _%_}
 use lib.Dec.{ltb, leb, eqb}
 use Rattle.facts.specs.Choice.{pick, both}

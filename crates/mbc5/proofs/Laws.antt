@@ -2,11 +2,11 @@
 -- Assumes nothing.
 use mathlib.Core.Bool.{true}
 use mathlib.Core.Path.{_≡_, refl, ap, _∙_}
-use Prim.Native.Nat.{ℕ, _+_, _*_, _/_, _%_, _^_, _<_}
+use Prim.Native.Nat.{ℕ, _+_, _*_, _/_, _%_, _<_}
 use native.Mathlib.Omega.{arith}
 use lib.Bits.{bitOr, bitAnd, or-shifted, and-high, and-mask}
 use lib.Dec.{leb, ltb}
-use borrow.Author.Tests.{le-leb, leb-true}
+use borrow.Author.Tests.{le-leb}
 use Rattle.facts.proofs.ChoiceLaws.{both-parts, both-true, pick-has}
 use Rattle.facts.proofs.BitLaws.{join-above}
 use Rattle.banking.specs.Banks.{ramPlace, Inside}

@@ -7,7 +7,7 @@ use Rattle.facts.specs.Counter.{carries, step, stepIf}
 use Rattle.facts.proofs.ChoiceLaws.{false≢true}
 use Rattle.bytes_le.specs.Little.{valueOf, bytesOf, fieldAt}
 use Rattle.clock_registers.specs.Seconds.{secondOn, secondsOn}
-use Rattle.clock.specs.Access.{startAt, shownOf}
+use Rattle.clock.specs.Access.{shownOf}
 use Rattle.clock.specs.declared.Shown.the-variants.{Byte}
 use Rattle.clock_block.specs.Layout.{block, blockBytes, blockIn}
 use Rattle.clock_block.specs.Waking.{takenOf, wokenOf}

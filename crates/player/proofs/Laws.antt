@@ -1,14 +1,10 @@
 -- A call by what its state is, its answer as a number, and the facts of an accepted header as numbers of 32 bits. Assumes nothing.
-use mathlib.Core.List.{List, [], _∷_}
-use mathlib.Core.Bool.{Bool, true, false}
+use mathlib.Core.List.{List}
 use mathlib.Core.Path.{_≡_, refl, sym, ap, _∙_}
-use Prim.Native.Nat.{ℕ, _≤_}
+use Prim.Native.Nat.{ℕ}
 use native.Mathlib.Omega.{arith}
-use lib.Dec.{eqb}
-use lib.ListN.{length, take, drop, length-take}
-use Rattle.facts.specs.Choice.{pick}
 use Rattle.facts.proofs.ListLaws.{one-of-le}
-use Rattle.image.specs.Image.{upToZero, titleOf}
+use Rattle.image.proofs.ImageLaws.{title-le}
 use Rattle.header.specs.Check.{factsOf, checkOf}
 use Rattle.header.specs.Size.{ramSizes}
 use Rattle.header.specs.declared.Facts.{Facts}
@@ -90,20 +86,6 @@ advance-number s n e g =
     same (advanced.Refuse w) = refl
 
 -- ---- the header
-
-up-to-zero-le : (l : List ℕ) → length (upToZero l) ≤ length l
-unfolding upToZero
-up-to-zero-le [] = omega arith
-up-to-zero-le (x ∷ l) = go (eqb x 0) (up-to-zero-le l)
-  where
-    go : (b : Bool) → length (upToZero l) ≤ length l → length (pick b [] (x ∷ upToZero l)) ≤ length (x ∷ l)
-    go true h = omega arith
-    go false h = omega arith
-
-title-le : (s : List ℕ) → length (titleOf s) ≤ 15
-unfolding titleOf
-title-le s =
-    let l = drop 0x134 s in omega (arith, up-to-zero-le (take 15 l), length-take 15 l)
 
 pub accepted-small : (s : List ℕ) {x : Checked} {d : Facts} → x ≡ checkOf s → x ≡ Accept d → Small d
 unfolding factsOf

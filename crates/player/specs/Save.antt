@@ -1,7 +1,6 @@
 -- Save files, over the bytes of a state.
 use mathlib.Core.List.{List}
 use Prim.Native.Nat.{ℕ}
-use lib.ListN.{length}
 use Rattle.save_file.specs.Admit.{numberOf}
 use Rattle.save_file.specs.Save as save
 use Rattle.save_file.specs.Load as load

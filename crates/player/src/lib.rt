@@ -2,19 +2,13 @@
 // keeps; no call asks anything of them. Each answers 0 or the number of the refusal, and a refused call has changed no lent byte.
 ghost use mathlib.Core.Path.{_≡_};
 ghost use lib.ListN.{length};
-ghost use Rattle.header.specs.Check.{checkOf};
 ghost use Rattle.mount.specs.Mount as mounting;
-ghost use Rattle.bus.specs.Bus as bus;
-ghost use Rattle.bus.specs.Advance as advancing;
 ghost use Rattle.flat_write.specs.Calls.{stateWritten, areaWritten, stateAdvanced};
-ghost use Rattle.save_file.specs.Save as saving;
-ghost use Rattle.save_file.specs.Load as loading;
 ghost use Rattle.player.specs.Header.{kindNumber, hasTimer, hasRumble, Small, factsOf, headerOf, factsAfter};
-ghost use Rattle.player.specs.Bus.{mountNumber, mountState, mountOf, stateMounted, readNumber, readOf, writeOf, advanceOf};
+ghost use Rattle.player.specs.Bus.{mountOf, stateMounted, readNumber, readOf, writeOf, advanceOf};
 ghost use Rattle.player.specs.Save.{roomNumber, roomSize, sizeOf, sizeAsked, savedNumber, savedSize, saveOf, roomSaved, sizeSaved, loadedNumber, loadedState, loadedClock, loadOf, stateLoaded, areaLoaded, clockLoaded};
-ghost use Rattle.player.specs.Windows.{windowsIn, askedNumber, askedWindows, windowsNumber, windowsAfter, seenNumber, putNumber, windowRead, windowWrite, areaThrough};
+ghost use Rattle.player.specs.Windows.{windowsIn, askedNumber, askedWindows, windowsNumber, windowsAfter, windowRead, windowWrite, areaThrough};
 use bus::ReadAnswer;
-use cartridge::Cartridge;
 use flat_write::Passed;
 use flat_write::Wrote;
 use header::Checked;

@@ -2,8 +2,7 @@
 // bytes; what is refused, by the first of the numbers 13 to 21 that holds, has changed no byte and no field.
 ghost use mathlib.Core.Path.{_≡_};
 ghost use Prim.Native.Nat.{_≤_};
-ghost use lib.ListN.{length, take, drop};
-ghost use Rattle.battery.specs.Battery.{clockIn};
+ghost use lib.ListN.{length, take};
 ghost use Rattle.save_file.specs.Admit.{numberOf, admitOf};
 ghost use Rattle.save_file.specs.Save.{bytesOf, savedOf, roomBy, saveOf, roomAfter, roomFor};
 ghost use Rattle.save_file.specs.Load.{loadedOf, areaBy, loadOf, areaAfter};

@@ -1,7 +1,7 @@
 -- Fields at their places in the bytes of a state, little-endian, and flags.
 use mathlib.Core.Bool.{Bool, true}
 use mathlib.Core.List.{List, [], _∷_}
-use Prim.Native.Nat.{ℕ, _+_}
+use Prim.Native.Nat.{ℕ}
 use lib.Dec.{eqb, leb}
 use Rattle.facts.specs.Choice.{both}
 use Rattle.bytes_le.specs.Little.{fieldAt, putAt}

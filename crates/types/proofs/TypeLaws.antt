@@ -1,7 +1,6 @@
 -- The search of the table of types, row by row. Assumes nothing.
-use mathlib.Core.Bool.{Bool, true, false}
 use mathlib.Core.Path.{_≡_, refl, sym, ap, _∙_}
-use mathlib.Core.List.{List, [], _∷_}
+use mathlib.Core.List.{List}
 use Prim.Native.Nat.{ℕ, suc, _+_, _<_, _≤_}
 use native.Mathlib.Numerals.{add-one}
 use native.Mathlib.Omega.{arith}
@@ -12,7 +11,6 @@ use borrow.Author.Tests.{eq-eqb, ne-eqb}
 use Rattle.facts.specs.Choice.{pick}
 use Rattle.types.specs.Types.{types, noRow, findRow, typeOf}
 use Rattle.types.specs.declared.TypeRow.{TypeRow}
-use Rattle.types.specs.declared.Found.{Found}
 use Rattle.types.specs.declared.Found.the-variants.{Row, Unknown}
 
 count : length types ≡ 24

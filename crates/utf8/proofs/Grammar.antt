@@ -3,12 +3,12 @@ use mathlib.Core.Bool.{Bool, true, false}
 use mathlib.Core.Path.{_≡_, refl, sym, ap, _∙_, subst}
 use mathlib.Core.Logic.{_⊎_, inl, inr}
 use mathlib.Core.List.{List, [], _∷_, _++_, List·Memᴰ, List·Memᴰ·head, List·Memᴰ·tail}
-use Prim.Native.Nat.{ℕ, zero, suc, _+_, _-_, _<_, _≤_}
+use Prim.Native.Nat.{ℕ, suc, _+_, _-_, _≤_}
 use native.Mathlib.Omega.{arith}
 use lib.Dec.{leb}
 use borrow.Author.Tests.{le-leb, leb-true}
 use Rattle.facts.specs.Choice.{pick, both}
-use Rattle.utf8.specs.Utf8.{Range, chars, Reads, stop, byte, Octets, none, char, within, Next, never, asks, begun, after, done, reads, isUtf8}
+use Rattle.utf8.specs.Utf8.{Range, chars, Reads, stop, byte, Octets, none, char, within, Next, never, asks, begun, after, reads, isUtf8}
 use Rattle.facts.proofs.ChoiceLaws.{false≢true, both-parts, both-left, both-right}
 use Rattle.utf8.proofs.ReaderLaws.{run, segment}
 

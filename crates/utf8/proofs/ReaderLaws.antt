@@ -1,21 +1,20 @@
 -- The reader's steps: what follows a first byte, a byte inside a character, and the loop. Assumes nothing.
 use mathlib.Core.Bool.{Bool, true, false}
-use mathlib.Core.Path.{_≡_, refl, sym, ap, ap₂, _∙_, subst}
+use mathlib.Core.Path.{_≡_, refl, sym, ap, ap₂, _∙_}
 use mathlib.Core.Logic.{_⊎_, inl, inr}
-use mathlib.Core.List.{List, [], _∷_, _++_}
+use mathlib.Core.List.{List, [], _∷_}
 use Prim.Native.Nat.{ℕ, zero, suc, _+_, _-_, _<_, _≤_}
 use native.Mathlib.Nat.{eq-or-lt-of-le}
 use native.Mathlib.Numerals.{add-one}
 use native.Mathlib.Omega.{arith}
 use lib.Dec.{eqb}
-use lib.ListN.{getD, length, drop, replicate, drop-of-length-le}
+use lib.ListN.{getD, length, drop, drop-of-length-le}
 use lib.Seq.{drop-cons}
 use borrow.Author.Tests.{le-leb, lt-leb, eqb-true}
-use Rattle.facts.specs.Choice.{pick, both}
+use Rattle.facts.specs.Choice.{both}
 use Rattle.facts.proofs.ChoiceLaws.{false≢true, both-left, both-right}
-use Rattle.utf8.specs.Utf8.{Range, range, tail, chars, within, Next, never, asks, begun, after, done, reads, isUtf8, pending}
-use Rattle.utf8.specs.declared.State.{State}
-use Rattle.utf8.specs.declared.State.the-variants.{Whole, Tail, Bad}
+use Rattle.utf8.specs.Utf8.{Range, range, chars, Next, never, asks, begun, after, done, reads, isUtf8, pending}
+use Rattle.utf8.specs.declared.State.the-variants.{Tail}
 
 -- ---- equality as a test, sound
 

@@ -1,12 +1,11 @@
 -- What the windows' code rests on: places that fit 32 bits, and the answers by an address and by how the RAM is mapped. Assumes nothing.
 use mathlib.Core.Bool.{Bool, true, false}
 use mathlib.Core.List.{List, [], _∷_}
-use mathlib.Core.Path.{_≡_, refl, sym, ap, _∙_}
+use mathlib.Core.Path.{_≡_, refl, sym}
 use Prim.Native.Nat.{ℕ, _+_, _%_, _<_, _≤_}
 use native.Mathlib.Omega.{arith}
 use lib.Dec.{ltb}
-use lib.ListN.{length, getD, set, List·getD-eq-default}
-use lib.Seq.{getD-set-same, set-getD}
+use lib.ListN.{getD, set, List·getD-eq-default}
 use borrow.Author.Tests.{lt-ltb, le-ltb}
 use Rattle.facts.specs.Choice.{pick}
 use Rattle.banking.specs.Banks.{Inside, romPlace}
@@ -25,14 +24,12 @@ use Rattle.cartridge.specs.Fit.{fitCart}
 use Rattle.cartridge.specs.declared.Cartridge.{Cartridge}
 use Rattle.cartridge.proofs.Laws.{fit-registers, fit-banks, fit-count, fit-size}
 use Rattle.access.specs.Verdict.{inRam}
-use Rattle.access.proofs.Laws.{ram-window, below-ram, above-ram}
+use Rattle.access.proofs.Laws.{ram-window, below-ram}
 use Rattle.windows.specs.Windows.{Small, Stands}
 use Rattle.windows.specs.Through.{placeIn, ramSeen, seenOf, putBy, putOf, areaBy, areaAfter}
 use Rattle.windows.specs.declared.Windows.{Windows}
-use Rattle.windows.specs.declared.Seen as seen
 use Rattle.windows.specs.declared.Seen.the-variants.{Byte}
 use Rattle.windows.specs.declared.Seen.the-variants as read
-use Rattle.windows.specs.declared.Put as put
 use Rattle.windows.specs.declared.Put.the-variants as write
 
 -- ---- places of 32 bits
@@ -55,11 +52,6 @@ rom-small banks bank addr h l = omega (arith, rom-inside banks bank addr h)
 
 pub fit-stands : (c : Cartridge) → fitCart c ≡ true → Stands (c .banks) (c .size) (c .mapper)
 fit-stands c e = record { some = fit-banks c e; few = fit-count c e; small = fit-size c e; fit = fit-registers c e }
-
--- ---- a byte, or what stands beyond
-
-pub other-default : (l : List ℕ) (i a b : ℕ) → i < length l → getD l i a ≡ getD l i b
-other-default l i a b h = sym (getD-set-same l i (getD l i a) b h) ∙ ap (λ (k : List ℕ). getD k i b) (set-getD l i a)
 
 -- ---- a read by its address
 

@@ -2,7 +2,7 @@
 use mathlib.Core.Bool.{Bool, true, false}
 use mathlib.Core.List.{List, _++_}
 use mathlib.Core.Path.{_≡_, refl, sym, ap, _∙_}
-use Prim.Native.Nat.{ℕ, _+_, _/_, _%_, _<_, _≤_}
+use Prim.Native.Nat.{ℕ, _+_, _/_, _%_, _≤_}
 use native.Mathlib.Omega.{arith}
 use lib.Bits.{bitAnd, and-mask}
 use lib.Dec.{ltb, eqb}
@@ -11,7 +11,7 @@ use lib.Seq.{getD-drop}
 use borrow.Author.Tests.{ltb-false, ne-eqb}
 use Rattle.facts.specs.Choice.{pick, both}
 use Rattle.facts.specs.Banking.{placeOf}
-use Rattle.facts.proofs.ListLaws.{part-set}
+use Rattle.facts.proofs.ListLaws.{other-default, part-set}
 use Rattle.banking.specs.Banks.{bankedPlace, ramPlace}
 use Rattle.banking.specs.declared.RamAt.{RamAt}
 use Rattle.banking.specs.declared.RamAt.the-variants.{At, NotMapped}
@@ -35,7 +35,6 @@ use Rattle.windows.specs.declared.Windows.{Windows}
 use Rattle.windows.specs.declared.Seen.the-variants.{Byte}
 use Rattle.windows.specs.declared.Seen.the-variants as read
 use Rattle.windows.specs.declared.Put.the-variants as write
-use Rattle.windows.proofs.Laws.{other-default}
 
 -- ---- a place
 

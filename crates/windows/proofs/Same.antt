@@ -36,8 +36,7 @@ use Rattle.window.proofs.Laws.{lent-within}
 use Rattle.cartridge.specs.Fit.{fitCart, areaOf}
 use Rattle.cartridge.specs.With.{withMapper}
 use Rattle.cartridge.specs.declared.Cartridge.{Cartridge}
-use Rattle.access.specs.Verdict.{inRom, inRam, verdictOf}
-use Rattle.access.specs.declared.Verdict.{Verdict}
+use Rattle.access.specs.Verdict.{inRam}
 use Rattle.access.specs.declared.Verdict.the-variants as verdict
 use Rattle.access.specs.declared.BusRefusal.{BusRefusal}
 use Rattle.access.specs.declared.BusRefusal.the-variants.{Unfit, WrongLength, BadAddress, BadSelection}
@@ -47,11 +46,11 @@ use Rattle.bus.specs.declared.ReadAnswer.{ReadAnswer}
 use Rattle.bus.specs.declared.ReadAnswer.the-variants as answer
 use Rattle.bus.specs.declared.WriteAnswer.the-variants as written
 use Rattle.windows.specs.Windows.{byWay, romAt, ramAt, windowsBy, windowsOf, asksOf}
-use Rattle.windows.specs.Through.{ramSeen, seenOf, fromRead, putOf, areaAfter}
+use Rattle.windows.specs.Through.{seenOf, fromRead, putOf, areaAfter}
 use Rattle.windows.specs.declared.Seen.the-variants as seen
 use Rattle.windows.specs.declared.Put.the-variants as put
 use Rattle.windows.proofs.Laws as laws
-use Rattle.windows.proofs.Moving.{movedWay, way-moves, way-seen, way-stored, way-put, mapper-stays}
+use Rattle.windows.proofs.Moving.{way-moves, way-seen, way-stored, way-put, mapper-stays}
 
 -- a fit cartridge, and what is lent has the mounted lengths
 pub record Lent (c : Cartridge) (rom ram : List ℕ) : Type 0 where

@@ -2,8 +2,6 @@
 use borrow.Author.Needs.{needs}
 use Rattle.header.proofs.facts_of.Statement.{statement}
 use Rattle.header.proofs.facts_of.Tie as tie
-use mathlib.Core.Path.{ap, sym}
-use lib.ListN.{length}
 use Rattle.header.specs.Check.{factsOf}
 
 is-multicart-requires : tie.Need-is-multicart-requires

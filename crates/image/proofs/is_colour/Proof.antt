@@ -3,7 +3,6 @@ use borrow.Author.Needs.{needs}
 use Rattle.image.proofs.is_colour.Statement.{statement}
 use Rattle.image.proofs.is_colour.Tie as tie
 use mathlib.Core.Path.{_∙_}
-use lib.ListN.{getD}
 use Rattle.facts.proofs.BitLaws.{bit-test}
 use Rattle.image.specs.Image.{isColour}
 

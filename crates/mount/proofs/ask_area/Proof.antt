@@ -2,10 +2,6 @@
 use borrow.Author.Needs.{needs}
 use Rattle.mount.proofs.ask_area.Statement.{statement}
 use Rattle.mount.proofs.ask_area.Tie as tie
-use Rattle.mount.proofs.ask_area.Reads as reads
-use Rattle.mount.proofs.ask_area.Lts as lts
-use Rattle.header.proofs.check.Reads as check-reads
-use Rattle.mount.proofs.area_of.Reads as area-of-reads
 use denote.Ref.{now}
 use mathlib.Core.Path.{sym, ap, _∙_}
 use Rattle.mount.specs.declared.Area.the-variants.{Bytes}

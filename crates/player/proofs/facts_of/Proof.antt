@@ -2,7 +2,6 @@
 use borrow.Author.Needs.{needs}
 use Rattle.player.proofs.facts_of.Statement.{statement}
 use Rattle.player.proofs.facts_of.Tie as tie
-use mathlib.Core.Path.{sym, ap, _∙_}
 use native.Mathlib.Omega.{arith}
 use Rattle.facts.proofs.BitLaws.{flag-byte}
 use Rattle.mapper.proofs.Laws.{area-le}

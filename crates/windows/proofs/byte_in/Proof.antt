@@ -5,7 +5,7 @@ use Rattle.windows.proofs.byte_in.Tie as tie
 use mathlib.Core.Path.{sym}
 use denote.Ref.{now}
 use lib.ListN.{List·getD-eq-default}
-use Rattle.windows.proofs.Laws.{other-default}
+use Rattle.facts.proofs.ListLaws.{other-default}
 
 shared-slice-read-result : tie.Need-shared-slice-read-result
 shared-slice-read-result c = search needs

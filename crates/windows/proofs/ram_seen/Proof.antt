@@ -2,9 +2,7 @@
 use borrow.Author.Needs.{needs}
 use Rattle.windows.proofs.ram_seen.Statement.{statement}
 use Rattle.windows.proofs.ram_seen.Tie as tie
-use mathlib.Core.Path.{sym}
 use native.Mathlib.Omega.{arith}
-use lib.ListN.{List·getD-eq-default}
 use Rattle.mbc2.proofs.Laws.{high-nibble}
 use Rattle.windows.specs.Through.{ramSeen}
 use denote.Ref.{now}

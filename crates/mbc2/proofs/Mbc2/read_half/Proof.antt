@@ -1,7 +1,6 @@
 -- `mbc2::Mbc2::read_half` meets its contract: the address modulo 512 is inside the half-bytes. Assumes nothing.
 use Rattle.mbc2.proofs.Mbc2.read_half.Statement.{statement}
 use Rattle.mbc2.proofs.Mbc2.read_half.Tie as tie
-use Prim.Native.Nat.{ℕ}
 use native.Mathlib.Omega.{arith}
 use denote.Ref.{now}
 use lib.Bits.{bitAnd, and-mask, and-le-l, mask-lt}

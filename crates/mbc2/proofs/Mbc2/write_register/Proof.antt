@@ -3,7 +3,7 @@ use borrow.Author.Needs.{needs}
 use Rattle.mbc2.proofs.Mbc2.write_register.Statement.{statement}
 use Rattle.mbc2.proofs.Mbc2.write_register.Tie as tie
 use mathlib.Core.Path.{_≡_}
-use Prim.Native.Nat.{ℕ, _/_, _%_}
+use Prim.Native.Nat.{_/_, _%_}
 use native.Mathlib.Omega.{arith}
 use lib.Bits.{and-mask, and-high}
 use borrow.Author.Tests.{eq-eqb, ne-eqb, lt-ltb, le-ltb}
