@@ -77,9 +77,9 @@ bench: x86-64 player-library
 SEED ?= 20261115
 IMAGES ?= 100000
 ACCESSES ?= 2000
-COMPARE = @compare/run "$(ORIGINAL)" "$(LIBRARY)" "$(CURDIR)/target/compare"
+COMPARE = @compare/run "$(ORIGINAL)" "$(LIBRARY)" "$(CURDIR)/target/compare$(OTHER)"
 compare: original x86-64 player-library
-	$(COMPARE) $(or $(WORDS),--seed $(SEED) --images $(IMAGES) --accesses $(ACCESSES) --out "$(CURDIR)/target/compare")
+	$(COMPARE) $(or $(WORDS),--seed $(SEED) --images $(IMAGES) --accesses $(ACCESSES) --out "$(CURDIR)/target/compare$(OTHER)")
 
 compare-states: original x86-64 player-library
 	$(COMPARE) states

@@ -1,7 +1,7 @@
 //! The same accesses on the same cartridges, by every way there is to make them, in nanoseconds for each access:
 //!
 //! - floor: an array of 64 KiB by the address, which any way must at least do;
-//! - windows: `imfelkuz::Cartridge`, whose reads and RAM writes take the windows in Rust;
+//! - windows: `imfelkuz::Cartridge`, whose `byte` and RAM writes take the windows in Rust;
 //! - window calls: `imf_window_read` and `imf_window_write`, and the state where they ask for it;
 //! - calls: `imf_read` and `imf_write`;
 //! - original: mizu-core's `Cartridge`, where its source was given.
@@ -78,7 +78,7 @@ impl Way for Floor {
 impl Way for Cartridge {
     #[inline]
     fn read(&mut self, addr: u16) -> u8 {
-        Cartridge::read(self, addr).unwrap_or(0)
+        self.byte(addr)
     }
 
     #[inline]

@@ -148,8 +148,8 @@ pub struct Cartridge {
 /// Where the windows stand, and how the RAM's is mapped.
 #[derive(Clone, Copy)]
 struct Windows {
-    rom0: usize,
-    romx: usize,
+    /// What to add to an address, for each 8 KiB of them, to have its place in the image.
+    image: [usize; 8],
     ram: usize,
     mask: usize,
     how: u32,
@@ -159,12 +159,17 @@ const NOT_MAPPED: u32 = 0;
 const BYTES: u32 = 1;
 const HALF_BYTES: u32 = 2;
 
+/// With any address a place that no image has.
+const NOWHERE: usize = usize::MAX / 2;
+
 impl Windows {
     fn of(state: &State) -> Result<Windows, Refusal> {
         let mut found = [0; 6];
         done(sys::windows(state, &mut found))?;
         let [rom0, romx, ram, mask, how, _] = found;
-        Ok(Windows { rom0: rom0 as usize, romx: romx as usize, ram: ram as usize, mask: mask as usize, how })
+        let (low, high) = (rom0 as usize, (romx as usize).wrapping_sub(0x4000));
+        let image = [low, low, high, high, NOWHERE, NOWHERE, NOWHERE, NOWHERE];
+        Ok(Windows { image, ram: ram as usize, mask: mask as usize, how })
     }
 
     #[inline]
@@ -209,9 +214,40 @@ impl Cartridge {
     /// Refuses an address outside the cartridge, with 15.
     #[inline]
     pub fn read(&self, addr: u16) -> Result<u8, Refusal> {
+        match self.image_byte(addr) {
+            Some(byte) => Ok(byte),
+            None => self.read_elsewhere(addr),
+        }
+    }
+
+    /// The same for a bus that sends the cartridge its own addresses only: others read 0xFF, as an open bus does.
+    #[inline]
+    pub fn byte(&self, addr: u16) -> u8 {
+        match self.image_byte(addr) {
+            Some(byte) => byte,
+            None => self.byte_elsewhere(addr),
+        }
+    }
+
+    // None where the address shows no part of the image, or one behind its end.
+    #[inline]
+    fn image_byte(&self, addr: u16) -> Option<u8> {
+        let place = self.windows.image[usize::from(addr >> 13)].wrapping_add(usize::from(addr));
+        self.image.get(place).copied()
+    }
+
+    // A call, so that the caller's loop holds what most reads take and no more.
+    #[inline(never)]
+    fn byte_elsewhere(&self, addr: u16) -> u8 {
+        if addr >> 13 == 5 && self.windows.how == BYTES {
+            return self.ram_byte(addr);
+        }
+        self.read_elsewhere(addr).unwrap_or(0xFF)
+    }
+
+    fn read_elsewhere(&self, addr: u16) -> Result<u8, Refusal> {
         match addr {
-            0x0000..=0x3FFF => Ok(self.rom_byte(self.windows.rom0 + addr as usize)),
-            0x4000..=0x7FFF => Ok(self.rom_byte(self.windows.romx + (addr as usize & 0x3FFF))),
+            0x0000..=0x7FFF => Ok(0), // The image counts as padded with zeros.
             0xA000..=0xBFFF => match self.windows.how {
                 NOT_MAPPED => Ok(0xFF),
                 BYTES => Ok(self.ram_byte(addr)),
@@ -239,16 +275,6 @@ impl Cartridge {
                 Ok(())
             }
             _ => Err(Refusal::BadAddress),
-        }
-    }
-
-    // The image counts as padded with zeros.
-    #[inline]
-    fn rom_byte(&self, place: usize) -> u8 {
-        if place < self.image.len() {
-            self.image[place]
-        } else {
-            0
         }
     }
 

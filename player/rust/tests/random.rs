@@ -48,6 +48,7 @@ fn read_agrees(cart: &Cartridge, windows: &sys::Windows, addr: u16) -> bool {
     let expected = sys::read(cart.state(), cart.image(), cart.ram(), addr);
     let seen = sys::window_read(windows, cart.image(), cart.ram(), addr);
     assert_eq!(cart.read(addr).map_err(|why| why.number().into()), byte(expected));
+    assert_eq!(cart.byte(addr), byte(expected).unwrap_or(0xFF));
     if seen == sys::ASK {
         assert_eq!(windows[4], 3);
         assert!((0xA000..0xC000).contains(&addr));

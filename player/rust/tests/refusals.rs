@@ -133,6 +133,7 @@ fn accesses_15_and_16() {
         let mut cart = mounted(ty, ram);
         for addr in (0x8000..=0x9FFF).chain(0xC000..=0xFFFF) {
             assert_eq!(cart.read(addr), Err(Refusal::BadAddress));
+            assert_eq!(cart.byte(addr), 0xFF);
             unchanged_at(&mut cart, addr);
         }
         for byte in 0..=255 {
