@@ -10,7 +10,8 @@ use borrow.Author.Tests.{le-ltb}
 use Rattle.facts.specs.Choice.{pick, both}
 use Rattle.facts.specs.Listed.{oneOf}
 use Rattle.facts.proofs.ChoiceLaws.{both-left, both-right, both-one, both-false, not-true, not-false}
-use Rattle.banking.specs.Banks.{fromOne}
+use Rattle.banking.specs.Banks.{fromOne, Inside}
+use Rattle.banking.specs.declared.RamAt.{RamAt}
 use Rattle.bytes_le.specs.Little.{fieldAt}
 use Rattle.image.specs.Image.{paddedLength}
 use Rattle.header.specs.Size.{ramSizes}
@@ -24,8 +25,10 @@ use Rattle.mbc3.specs.declared.Mbc3 as mbc3-state
 use Rattle.mapper.specs.Mappers as mapper
 use Rattle.mapper.specs.Mappers.{kindOf, multicartBanks, holds, areaOf, bank0}
 use Rattle.mapper.specs.declared.Mapper.{Mapper}
-use Rattle.mapper.specs.declared.Mapper.the-variants.{NoMapper}
+use Rattle.mapper.specs.declared.Mapper.the-variants.{NoMapper, Mbc3}
 use Rattle.window.specs.Window as window
+use Rattle.window.specs.declared.Way.the-variants.{Bytes, Timer}
+use Rattle.window.proofs.Laws.{lent-within}
 use Rattle.cartridge.specs.Fit.{bankCounts, fitBoard, fitCart}
 use Rattle.cartridge.specs.Fit as cartridge
 use Rattle.cartridge.specs.declared.Cartridge.{Cartridge}
@@ -204,6 +207,17 @@ read-at s ram addr {m = m} e p q r =
     of-kind (λ (i : Mapper). window.readOf i (fieldAt 8 s 24) ram addr) s e p
     (r ∙ ap (λ (i : ℕ). window.readOf m i ram addr) q)
 
+-- an MBC3 of either kind whose RAM is selected
+module _ (m : mbc3-state.Mbc3) (size addr : ℕ) (e : m .memory ≡ true) {place : RamAt} (p : place ≡ mbc3.ramAt m size addr) where
+  pub selected-within : {n : ℕ} → n ≡ size → Inside place n
+  selected-within =
+      lent-within (Mbc3 m) size addr
+      (ap Bytes p ∙ ap (λ (t : Bool). pick t (Bytes (mbc3.ramAt m size addr)) (Timer m)) (sym e))
+
+  pub selected-read : (ram : List ℕ) {b : ℕ} → b ≡ window.loaded ram place → b ≡ window.readOf (Mbc3 m) size ram addr
+  unfolding window.readOf
+  selected-read ram h = simp (e, h, p)
+
 -- ---- a call on the bytes is one on the state
 
 module _ (s : List ℕ) {k : ℕ} {f : Bool} (p : k ≡ fieldAt 1 s 0) (q : f ≡ fitAt s k) where
@@ -230,6 +244,12 @@ module _ (s : List ℕ) {k : ℕ} {f : Bool} (p : k ≡ fieldAt 1 s 0) (q : f �
     pub fit-call : {A : Type 0} (g : Cartridge → A) (x : A) → g (cartAt s k) ≡ onState g x (decodeOf s)
     fit-call g x = ap (onState g x) is-decoded
 
+-- the verdict on an access to a fit cartridge, whose fitness is not asked again
+pub fit-judged : (c : Cartridge) (addr : ℕ) (l bad : Bool) {v : Verdict} → fitCart c ≡ true → v ≡ verdictBy addr (noesBy true l addr bad)
+    → v ≡ verdictOf c l addr bad
+unfolding verdictOf noes
+fit-judged c addr l bad f e = e ∙ ap (λ (b : Bool). verdictBy addr (noesBy b l addr bad)) (sym f)
+
 -- ---- and so a read
 
 module _ (s rom ram : List ℕ) (addr : ℕ) {k : ℕ} {f : Bool} (p : k ≡ fieldAt 1 s 0) (q : f ≡ fitAt s k) where
@@ -246,8 +266,7 @@ module _ (s rom ram : List ℕ) (addr : ℕ) {k : ℕ} {f : Bool} (p : k ≡ fie
   module _ (h : not f ≡ false) {l : Bool} {v : Verdict} (r : l ≡ lentBoth (cartAt s k) (length rom) (length ram))
       (e : v ≡ verdictBy addr (noesBy true l addr false)) where
     judged : v ≡ verdictOf (cartAt s k) l addr false
-    unfolding verdictOf noes
-    judged = e ∙ ap (λ (b : Bool). verdictBy addr (noesBy b l addr false)) (sym (fit-cart s p q h))
+    judged = fit-judged (cartAt s k) addr l false (fit-cart s p q h) e
 
     pub area-lent : v ≡ Ram → length ram ≡ cartridge.areaOf (cartAt s k)
     area-lent = read-area (cartAt s k) addr rom ram refl r judged

@@ -13,7 +13,7 @@ use Rattle.window.specs.Window as window
 use Rattle.cartridge.specs.Fit.{fitCart, areaOf}
 use Rattle.cartridge.specs.declared.Cartridge.{Cartridge}
 use Rattle.cartridge.proofs.Laws.{fit-board}
-use Rattle.access.specs.Verdict.{noesBy, verdictBy, noes, verdictOf}
+use Rattle.access.specs.Verdict.{noesBy, verdictBy, verdictOf}
 use Rattle.access.specs.declared.Verdict.{Verdict}
 use Rattle.access.specs.declared.Verdict.the-variants.{Rom, Ram}
 use Rattle.access.specs.declared.Verdict.the-variants as verdict
@@ -26,7 +26,7 @@ use Rattle.bus.proofs.Laws.{write-answered, area-answered, write-area, unfit-an
 use Rattle.states.specs.Layout.{encodeOf}
 use Rattle.states.specs.Reading.{cartIn}
 use Rattle.flat.specs.Kinds.{mapperAt, cartAt, fitAt}
-use Rattle.flat.proofs.Laws.{area-at, unfit-call, fit-cart, fit-call}
+use Rattle.flat.proofs.Laws.{area-at, unfit-call, fit-cart, fit-call, fit-judged}
 use Rattle.flat_write.specs.Calls.{wroteBy, writeState, wroteOf, stateWritten, areaWritten, passedBy, advanceState, passedOf, stateAdvanced}
 use Rattle.flat_write.specs.declared.Wrote.{Wrote}
 use Rattle.flat_write.specs.declared.Wrote.the-variants as wrote
@@ -61,8 +61,7 @@ module _ (s ram : List ℕ) (addr byte kind : ℕ) {m : Mapper} {z : ℕ} {v : V
   same-bad = ap (λ (i : Mapper). mapper.badSelection i addr byte) p
 
   judged : v ≡ verdictOf cart lent addr bad
-  unfolding verdictOf noes
-  judged = e ∙ ap (λ (b : Bool). verdictBy addr (noesBy b lent addr bad)) (sym f)
+  judged = fit-judged cart addr lent bad f e
 
   pub area-lent : v ≡ Ram → length ram ≡ mapper.areaOf m z
   area-lent g = area-at s {kind = kind} refl p q (write-area cart addr byte ram same-lent same-bad judged g)

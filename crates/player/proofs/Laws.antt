@@ -48,10 +48,15 @@ pub on-number : {A B : Type 0} (g : A → B) (f : Cartridge → A) (a : A) (d : 
 on-number g f a (To c) = refl
 on-number g f a NoState = refl
 
--- calls that answer alike on every cartridge
-on-same : {A : Type 0} {f g : Cartridge → A} (a : A) → ((c : Cartridge) → f c ≡ g c) → (d : Decoded) → onState f a d ≡ onState g a d
-on-same a h (To c) = h c
-on-same a h NoState = refl
+-- an answer without its cartridge, as a number: that of the answer with it
+module _ {A W : Type 0} (less : A → W) (told : W → ℕ) (number : A → ℕ) (same : (a : A) → told (less a) ≡ number a) where
+  alike : (f : Cartridge → A) (r : W) (d : Decoded) → onState (λ c. told (less (f c))) (told r) d ≡ onState (λ c. number (f c)) (told r) d
+  alike f r (To c) = same (f c)
+  alike f r NoState = refl
+
+  told-number : (f : Cartridge → A) (r : W) (d : Decoded) {x y : W} → x ≡ onState (λ c. less (f c)) r d → x ≡ y
+      → told y ≡ onState (λ c. number (f c)) (told r) d
+  told-number f r d e g = ap told (sym g ∙ e) ∙ on-number told (λ c. less (f c)) r d ∙ alike f r d
 
 -- ---- a write and passing clocks
 
@@ -59,31 +64,27 @@ abbrev wroteNumber : Wrote → ℕ
 wroteNumber wrote.Done = 0
 wroteNumber (wrote.Refuse w) = numberOf w
 
+wrote-same : (a : WriteAnswer) → wroteNumber (wroteBy a) ≡ writeNumber a
+wrote-same (write.Done c) = refl
+wrote-same (write.Refuse w) = refl
+
 pub write-number : (s ram : List ℕ) (addr byte : ℕ) {x y : Wrote} → x ≡ wroteOf s ram addr byte → x ≡ y → wroteNumber y ≡ writeOf s ram addr byte
 unfolding wroteOf writeOf
-write-number s ram addr byte e g =
-    ap wroteNumber (sym g ∙ e)
-    ∙ on-number wroteNumber (λ c. wroteBy (bus.writeOf c ram addr byte)) (wrote.Refuse Unfit) (decodeOf s)
-    ∙ on-same 13 (λ c. same (bus.writeOf c ram addr byte)) (decodeOf s)
-  where
-    same : (a : WriteAnswer) → wroteNumber (wroteBy a) ≡ writeNumber a
-    same (write.Done c) = refl
-    same (write.Refuse w) = refl
+write-number s ram addr byte =
+    told-number wroteBy wroteNumber writeNumber wrote-same (λ c. bus.writeOf c ram addr byte) (wrote.Refuse Unfit) (decodeOf s)
 
 abbrev passedNumber : Passed → ℕ
 passedNumber passed.Done = 0
 passedNumber (passed.Refuse w) = clock.numberOf w
 
+passed-same : (a : Advanced) → passedNumber (passedBy a) ≡ advanceNumber a
+passed-same (advanced.To c) = refl
+passed-same (advanced.Refuse w) = refl
+
 pub advance-number : (s : List ℕ) (n : ℕ) {x y : Passed} → x ≡ passedOf s n → x ≡ y → passedNumber y ≡ advanceOf s n
 unfolding passedOf advanceOf
-advance-number s n e g =
-    ap passedNumber (sym g ∙ e)
-    ∙ on-number passedNumber (λ c. passedBy (advance.advanceOf c n)) (passed.Refuse refusal.Unfit) (decodeOf s)
-    ∙ on-same 13 (λ c. same (advance.advanceOf c n)) (decodeOf s)
-  where
-    same : (a : Advanced) → passedNumber (passedBy a) ≡ advanceNumber a
-    same (advanced.To c) = refl
-    same (advanced.Refuse w) = refl
+advance-number s n =
+    told-number passedBy passedNumber advanceNumber passed-same (λ c. advance.advanceOf c n) (passed.Refuse refusal.Unfit) (decodeOf s)
 
 -- ---- the header
 
