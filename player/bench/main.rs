@@ -1,7 +1,8 @@
 //! The same accesses on the same cartridges, by every way there is to make them, in nanoseconds for each access:
 //!
 //! - floor: an array of 64 KiB by the address, which any way must at least do;
-//! - windows: `imfelkuz::Cartridge`, whose `byte` and RAM writes take the windows in Rust;
+//! - bus: the windows in Rust by `imfelkuz::Bus`, whose pages are looked up beforehand;
+//! - cartridge: the windows in Rust by `imfelkuz::Cartridge`, for one access at a time;
 //! - window calls: `imf_window_read` and `imf_window_write`, and the state where they ask for it;
 //! - calls: `imf_read` and `imf_write`;
 //! - original: mizu-core's `Cartridge`, where its source was given.
@@ -9,7 +10,7 @@
 //! `bench times FILE` writes the tables to a file. `bench count WAY MAPPER ACCESSES ROUNDS` makes one kind of access for so many rounds of 1,000
 //! and writes nothing: for a counter of instructions to run.
 use imfelkuz::sys::{self, State};
-use imfelkuz::Cartridge;
+use imfelkuz::{Bus, Cartridge};
 use std::arch::asm;
 use std::env;
 use std::fmt::Write;
@@ -72,6 +73,18 @@ impl Way for Floor {
 
     fn write(&mut self, addr: u16, byte: u8) {
         self.0[addr as usize] = byte;
+    }
+}
+
+impl Way for Bus<'_> {
+    #[inline]
+    fn read(&mut self, addr: u16) -> u8 {
+        self.byte(addr)
+    }
+
+    #[inline]
+    fn write(&mut self, addr: u16, byte: u8) {
+        let _ = Bus::write(self, addr, byte);
     }
 }
 
@@ -274,23 +287,46 @@ fn with_clock(mapper: Mapper, kind: usize) -> bool {
 fn times(out: &mut String) {
     writeln!(
         out,
-        "{:16} {:15} {:>8} {:>8} {:>13} {:>8} {:>9} {:>17} {:>15}",
-        "ns for an access", "", "floor", "windows", "window calls", "calls", "original", "windows/original", "calls/original"
+        "{:16} {:15} {:>8} {:>8} {:>10} {:>13} {:>8} {:>10} {:>9} {:>13} {:>21}",
+        "ns for an access",
+        "",
+        "floor",
+        "bus",
+        "cartridge",
+        "window calls",
+        "calls",
+        "bus/floor",
+        "original",
+        "bus/original",
+        "window calls/original"
     )
     .unwrap();
     for mapper in MAPPERS {
         for (kind, name) in ACCESSES.iter().enumerate().filter(|(kind, _)| with_clock(mapper, *kind)) {
             let image = || image(mapper, true);
             let floor = time(floor(), kind);
-            let windows = time(Cartridge::mount(image(), 0).unwrap(), kind);
+            let mut cart = Cartridge::mount(image(), 0).unwrap();
+            let bus = time(cart.bus(), kind);
+            let cartridge = time(cart, kind);
             let window_calls = time(window_calls(image()), kind);
             let calls = time(Calls::mount(image()), kind);
-            write!(out, "{:16} {:15} {:8.2} {:8.2} {:13.2} {:8.2}", mapper.name, name, floor, windows, window_calls, calls)
-                .unwrap();
+            write!(
+                out,
+                "{:16} {:15} {:8.2} {:8.2} {:10.2} {:13.2} {:8.2} {:10.2}",
+                mapper.name,
+                name,
+                floor,
+                bus,
+                cartridge,
+                window_calls,
+                calls,
+                bus / floor
+            )
+            .unwrap();
             #[cfg(original)]
             {
                 let original = time(original(&image()), kind);
-                write!(out, " {:9.2} {:17.2} {:15.2}", original, windows / original, calls / original).unwrap();
+                write!(out, " {:9.2} {:13.2} {:21.2}", original, bus / original, window_calls / original).unwrap();
             }
             writeln!(out).unwrap();
         }
@@ -416,7 +452,8 @@ fn count(way: &str, mapper: usize, kind: usize, rounds: u32) {
     let image = image(MAPPERS[mapper], false);
     match way {
         "floor" => play_rounds(&mut floor(), kind, rounds),
-        "windows" => play_rounds(&mut Cartridge::mount(image, 0).unwrap(), kind, rounds),
+        "bus" => play_rounds(&mut Cartridge::mount(image, 0).unwrap().bus(), kind, rounds),
+        "cartridge" => play_rounds(&mut Cartridge::mount(image, 0).unwrap(), kind, rounds),
         "window-calls" => play_rounds(&mut window_calls(image), kind, rounds),
         "calls" => play_rounds(&mut Calls::mount(image), kind, rounds),
         #[cfg(original)]

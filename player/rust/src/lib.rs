@@ -33,8 +33,8 @@
 //! ```
 //!
 //! Reads and RAM writes go through the cartridge's windows, which this crate keeps and asks for again after each register write: a
-//! few instructions in the caller's loop. All else is a call into the library. No call panics, whatever the image, the save or the
-//! state holds; a refused one changes nothing.
+//! few instructions in the caller's loop, and the fewest by way of [`Cartridge::bus`]. All else is a call into the library. No call
+//! panics, whatever the image, the save or the state holds; a refused one changes nothing.
 //!
 //! The library is for x86-64 Linux, and on an aarch64 machine `make player HERE=yes` builds it for that. The environment variable
 //! `IMFELKUZ_LIB` names its folder where that is not `target/staticlib` of the same repository.
@@ -45,10 +45,12 @@
 #[cfg(not(any(doc, all(any(target_arch = "x86_64", target_arch = "aarch64"), target_os = "linux"))))]
 compile_error!("libplayer.a is for x86-64 Linux, and for aarch64 with HERE=yes: build for one of these targets");
 
+mod bus;
 mod refusal;
 pub mod sys;
 pub mod trace;
 
+pub use bus::Bus;
 pub use refusal::Refusal;
 pub use sys::State;
 
@@ -145,14 +147,12 @@ pub struct Cartridge {
     facts: Facts,
 }
 
-/// Where the windows stand, and how the RAM's is mapped.
+/// Where the windows stand.
 #[derive(Clone, Copy)]
 struct Windows {
+    found: sys::Windows,
     /// What to add to an address, for each 8 KiB of them, to have its place in the image.
     image: [usize; 8],
-    ram: usize,
-    mask: usize,
-    how: u32,
 }
 
 const NOT_MAPPED: u32 = 0;
@@ -164,17 +164,29 @@ const NOWHERE: usize = usize::MAX / 2;
 
 impl Windows {
     fn of(state: &State) -> Result<Windows, Refusal> {
-        let mut found = [0; 6];
-        done(sys::windows(state, &mut found))?;
-        let [rom0, romx, ram, mask, how, _] = found;
+        let mut windows = Windows { found: [0; 6], image: [NOWHERE; 8] };
+        windows.ask(state)?;
+        Ok(windows)
+    }
+
+    fn ask(&mut self, state: &State) -> Result<(), Refusal> {
+        done(sys::windows(state, &mut self.found))?;
+        let [rom0, romx, ..] = self.found;
         let (low, high) = (rom0 as usize, (romx as usize).wrapping_sub(0x4000));
-        let image = [low, low, high, high, NOWHERE, NOWHERE, NOWHERE, NOWHERE];
-        Ok(Windows { image, ram: ram as usize, mask: mask as usize, how })
+        self.image = [low, low, high, high, NOWHERE, NOWHERE, NOWHERE, NOWHERE];
+        Ok(())
+    }
+
+    /// How the RAM's is mapped.
+    #[inline]
+    fn how(&self) -> u32 {
+        self.found[4]
     }
 
     #[inline]
-    fn place(self, addr: u16) -> usize {
-        self.ram + (addr as usize & self.mask)
+    fn place(&self, addr: u16) -> usize {
+        let [_, _, ram, mask, ..] = self.found;
+        ram as usize + (addr as usize & mask as usize)
     }
 }
 
@@ -239,7 +251,7 @@ impl Cartridge {
     // A call, so that the caller's loop holds what most reads take and no more.
     #[inline(never)]
     fn byte_elsewhere(&self, addr: u16) -> u8 {
-        if addr >> 13 == 5 && self.windows.how == BYTES {
+        if addr >> 13 == 5 && self.windows.how() == BYTES {
             return self.ram_byte(addr);
         }
         self.read_elsewhere(addr).unwrap_or(0xFF)
@@ -248,7 +260,7 @@ impl Cartridge {
     fn read_elsewhere(&self, addr: u16) -> Result<u8, Refusal> {
         match addr {
             0x0000..=0x7FFF => Ok(0), // The image counts as padded with zeros.
-            0xA000..=0xBFFF => match self.windows.how {
+            0xA000..=0xBFFF => match self.windows.how() {
                 NOT_MAPPED => Ok(0xFF),
                 BYTES => Ok(self.ram_byte(addr)),
                 HALF_BYTES => Ok(self.ram_byte(addr) | 0xF0),
@@ -266,7 +278,7 @@ impl Cartridge {
         match addr {
             0x0000..=0x7FFF => self.write_register(addr, byte),
             0xA000..=0xBFFF => {
-                match self.windows.how {
+                match self.windows.how() {
                     NOT_MAPPED => {}
                     BYTES => self.put(addr, byte),
                     HALF_BYTES => self.put(addr, byte & 0x0F),
@@ -307,8 +319,12 @@ impl Cartridge {
     // The windows may have moved.
     fn write_register(&mut self, addr: u16, byte: u8) -> Result<(), Refusal> {
         self.tell(addr, byte)?;
-        self.windows = Windows::of(&self.state)?;
-        Ok(())
+        self.windows.ask(&self.state)
+    }
+
+    /// The cartridge lent out for a run of accesses: the fastest way to make many.
+    pub fn bus(&mut self) -> Bus<'_> {
+        Bus::new(&mut self.image, &mut self.ram, &mut self.state, &mut self.windows)
     }
 
     /// Lets mapper clocks pass, [`CLOCKS_PER_SECOND`] of them in a second. Only a timer's clock shows it. It costs the same for one
@@ -354,7 +370,7 @@ impl Cartridge {
     pub fn load(&mut self, save: &[u8], wall: u64) -> Result<Loaded, Refusal> {
         let mut clock = 0;
         done(sys::save_in(&mut self.state, &mut self.ram, save, wall, &mut clock))?;
-        self.windows = Windows::of(&self.state)?;
+        self.windows.ask(&self.state)?;
         Ok(if clock == 1 { Loaded::Whole } else { Loaded::RamOnly })
     }
 

@@ -134,3 +134,34 @@ pub fn window_read(windows: &Windows, image: &[u8], ram: &[u8], addr: u16) -> u3
 pub fn window_write(windows: &Windows, ram: &mut [u8], addr: u16, byte: u8) -> u32 {
     unsafe { ffi::imf_window_write(windows, ram.as_mut_ptr(), ram.len(), addr, byte) }
 }
+
+/// Four of the calls over bytes that others hold references to meanwhile. A cell is its byte in memory, and may be written through a
+/// shared reference; no other thread has one.
+pub mod cells {
+    use super::{ffi, State, Windows};
+    use std::cell::Cell;
+
+    fn at(bytes: &[Cell<u8>]) -> *mut u8 {
+        bytes.as_ptr() as *mut u8
+    }
+
+    /// As [`read`](super::read).
+    pub fn read(state: &State, image: &[Cell<u8>], ram: &[Cell<u8>], addr: u16) -> u32 {
+        unsafe { ffi::imf_read(state, at(image), image.len(), at(ram), ram.len(), addr) }
+    }
+
+    /// As [`write`](super::write).
+    pub fn write(state: &mut State, ram: &[Cell<u8>], addr: u16, byte: u8) -> u32 {
+        unsafe { ffi::imf_write(state, at(ram), ram.len(), addr, byte) }
+    }
+
+    /// As [`window_read`](super::window_read).
+    pub fn window_read(windows: &Windows, image: &[Cell<u8>], ram: &[Cell<u8>], addr: u16) -> u32 {
+        unsafe { ffi::imf_window_read(windows, at(image), image.len(), at(ram), ram.len(), addr) }
+    }
+
+    /// As [`window_write`](super::window_write).
+    pub fn window_write(windows: &Windows, ram: &[Cell<u8>], addr: u16, byte: u8) -> u32 {
+        unsafe { ffi::imf_window_write(windows, at(ram), ram.len(), addr, byte) }
+    }
+}

@@ -5,7 +5,7 @@ use common::images::{self, put_header};
 use common::states::{self, fit, shape, Shape};
 use common::{byte, done, Draw};
 use imfelkuz::sys::{self, State};
-use imfelkuz::Cartridge;
+use imfelkuz::{Bus, Cartridge};
 
 const PLACES: [u16; 14] =
     [0x0000, 0x0104, 0x3FFF, 0x4000, 0x4001, 0x7FFF, 0x8000, 0x9FFF, 0xA000, 0xA7FF, 0xA800, 0xBFFF, 0xC000, 0xFFFF];
@@ -43,12 +43,14 @@ fn clock_register(state: &State) -> u32 {
     byte.into()
 }
 
-// Reads: through the state, through windows, and by a cartridge. Whether the windows had to pass it on.
-fn read_agrees(cart: &Cartridge, windows: &sys::Windows, addr: u16) -> bool {
+// Reads: through the state, through windows, by a cartridge, and by the bus of another. Whether the windows had to pass it on.
+fn read_agrees(cart: &Cartridge, bus: &Bus, windows: &sys::Windows, addr: u16) -> bool {
     let expected = sys::read(cart.state(), cart.image(), cart.ram(), addr);
     let seen = sys::window_read(windows, cart.image(), cart.ram(), addr);
     assert_eq!(cart.read(addr).map_err(|why| why.number().into()), byte(expected));
     assert_eq!(cart.byte(addr), byte(expected).unwrap_or(0xFF));
+    assert_eq!(bus.read(addr), cart.read(addr));
+    assert_eq!(bus.byte(addr), cart.byte(addr));
     if seen == sys::ASK {
         assert_eq!(windows[4], 3);
         assert!((0xA000..0xC000).contains(&addr));
@@ -71,18 +73,22 @@ fn windows_show_what_the_state_shows() {
         draw.fill(&mut ram);
         let mut cart = Cartridge::from_parts(image_of(&all[..], &shape), ram, start).unwrap();
         kinds[shape.kind as usize] += 1;
+        // One bus for all of them.
+        let mut lent = cart.clone();
+        let mut bus = lent.bus();
         // The same through the calls, and a third RAM that is written through windows where they can say.
         let (mut state, mut ram, mut third) = (start, cart.ram().to_vec(), cart.ram().to_vec());
         let mut windows = windows_of(&state);
         hows[windows[4] as usize] += 1;
         for _ in 0..60 {
             for _ in 0..4 {
-                passed_on += read_agrees(&cart, &windows, addr(&mut draw)) as u32;
+                passed_on += read_agrees(&cart, &bus, &windows, addr(&mut draw)) as u32;
             }
             let (at, b) = (addr(&mut draw), draw.byte());
             let answer = sys::write(&mut state, &mut ram, at, b);
             let put = sys::window_write(&windows, &mut third, at, b);
             assert_eq!(cart.write(at, b).map_err(|why| why.number().into()), done(answer));
+            assert_eq!(bus.write(at, b).map_err(|why| why.number().into()), done(answer));
             if put != sys::ASK {
                 assert_eq!(put, answer);
             }
@@ -90,6 +96,7 @@ fn windows_show_what_the_state_shows() {
                 let clocks = draw.next() >> 24;
                 assert_eq!(sys::advance(&mut state, clocks), 0);
                 cart.advance(clocks).unwrap();
+                bus.advance(clocks).unwrap();
             }
             // Only a write below 0x8000 moves the windows.
             let next = windows_of(&state);
@@ -99,10 +106,11 @@ fn windows_show_what_the_state_shows() {
         }
         assert_eq!(cart.ram(), &ram[..]);
         assert_eq!(third, ram);
+        assert_eq!((lent.ram(), lent.state()), (&ram[..], &state));
         // What was kept is the same cartridge again.
         let (image, kept, bytes) = cart.clone().into_parts();
         let again = Cartridge::from_parts(image, kept, bytes).unwrap();
-        read_agrees(&again, &windows, addr(&mut draw));
+        read_agrees(&again, &lent.bus(), &windows, addr(&mut draw));
     }
     println!("kinds {:?}, ways of mapping {:?}, {} reads passed on", kinds, hows, passed_on);
     assert!(kinds.iter().all(|n| *n > 20) && hows.iter().all(|n| *n > 15) && passed_on > 100);

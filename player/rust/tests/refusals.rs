@@ -134,6 +134,8 @@ fn accesses_15_and_16() {
         for addr in (0x8000..=0x9FFF).chain(0xC000..=0xFFFF) {
             assert_eq!(cart.read(addr), Err(Refusal::BadAddress));
             assert_eq!(cart.byte(addr), 0xFF);
+            assert_eq!(cart.bus().read(addr), Err(Refusal::BadAddress));
+            assert_eq!(cart.bus().byte(addr), 0xFF);
             unchanged_at(&mut cart, addr);
         }
         for byte in 0..=255 {
