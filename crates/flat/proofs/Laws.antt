@@ -43,48 +43,14 @@ use Rattle.bus.specs.declared.ReadAnswer.the-variants.{Refuse}
 use Rattle.bus.proofs.Laws.{read-answered, read-area}
 use Rattle.state_fields.specs.Fields.{areFlags}
 use Rattle.state_fields.specs.ClockFields.{registersIn, clockIn}
-use Rattle.states.specs.Reading.{flagsOf, mappersIn, untimedIn, timedIn, byKind, decodeOf}
+use Rattle.states.specs.Reading.{flagsOf, untimedIn, timedIn, mapperAt, cartAt, isState, decodeOf}
 use Rattle.states.specs.OnState.{onState}
 use Rattle.states.specs.declared.Decoded.{Decoded}
 use Rattle.states.specs.declared.Decoded.the-variants.{To, NoState}
-use Rattle.states.proofs.Laws.{no-kind}
-use Rattle.flat.specs.Kinds.{mapperAt, cartAt, isState, fitAt, fitKind}
+use Rattle.states.proofs.Laws.{of-kind, decoded-at}
+use Rattle.flat.specs.Kinds.{fitAt, fitKind}
 
 -- ---- the state, by its kind
-
-unknown-at : (s : List ℕ) (k : ℕ) → 7 ≤ k → byKind s k ≡ pick (ltb k 7) (To (cartAt s k)) NoState
-unknown-at s k h = sym (no-kind s k h) ∙ ap (λ (b : Bool). pick b (To (cartAt s k)) NoState) (sym (le-ltb k 7 h))
-
-kind-at : (s : List ℕ) (k : ℕ) → byKind s k ≡ pick (ltb k 7) (To (cartAt s k)) NoState
-unfolding byKind mapperAt
-kind-at s zero = refl
-kind-at s (suc zero) = refl
-kind-at s (suc (suc zero)) = refl
-kind-at s (suc (suc (suc zero))) = refl
-kind-at s (suc (suc (suc (suc zero)))) = refl
-kind-at s (suc (suc (suc (suc (suc zero))))) = refl
-kind-at s (suc (suc (suc (suc (suc (suc zero)))))) = refl
-kind-at s (suc (suc (suc (suc (suc (suc (suc k))))))) = unknown-at s (suc (suc (suc (suc (suc (suc (suc k))))))) (omega arith)
-
-pick-both : {A : Type 0} (f b : Bool) (x y : A) → pick f (pick b x y) y ≡ pick (both f b) x y
-pick-both true b x y = refl
-pick-both false b x y = refl
-
-decoded-at : (s : List ℕ) {k : ℕ} → k ≡ fieldAt 1 s 0 → pick (isState s k) (To (cartAt s k)) NoState ≡ decodeOf s
-unfolding decodeOf
-decoded-at s {k} p =
-    sym (pick-both (areFlags s (flagsOf k)) (ltb k 7) (To (cartAt s k)) NoState)
-    ∙ ap (λ (d : Decoded). pick (areFlags s (flagsOf k)) d NoState) (sym (kind-at s k))
-    ∙ ap (λ (n : ℕ). pick (areFlags s (flagsOf n)) (byKind s n) NoState) p
-
-pub no-mapper-at : (s : List ℕ) (k : ℕ) → 7 ≤ k → NoMapper none.start ≡ mapperAt s k
-unfolding mapperAt
-no-mapper-at s k h = sym (List·getD-eq-default (mappersIn s) (NoMapper none.start) h)
-
--- what holds of the mapper of a kind holds of the bytes of that kind
-pub of-kind : {A : Type 0} (f : Mapper → A) (s : List ℕ) {kind k : ℕ} {m : Mapper} {r : A} → kind ≡ k → m ≡ mapperAt s k → r ≡ f m
-    → r ≡ f (mapperAt s kind)
-of-kind f s e p q = q ∙ ap f p ∙ ap (λ (n : ℕ). f (mapperAt s n)) (sym e)
 
 -- only an MBC1 moves the low window, only an MBC2 has more than the header's RAM
 pub low-bank-0 : (s : List ℕ) (k : ℕ) → (k ≡ 1 → ⊥) → (k ≡ 2 → ⊥) → 0 ≡ bank0 (mapperAt s k)
@@ -207,12 +173,18 @@ read-at s ram addr {m = m} e p q r =
     of-kind (λ (i : Mapper). window.readOf i (fieldAt 8 s 24) ram addr) s e p
     (r ∙ ap (λ (i : ℕ). window.readOf m i ram addr) q)
 
--- an MBC3 of either kind whose RAM is selected
+-- an MBC3 of either kind, by what is selected
+pub selected-way : (m : mbc3-state.Mbc3) (size addr : ℕ) {t : Bool} → m .memory ≡ t
+    → pick t (Bytes (mbc3.ramAt m size addr)) (Timer m) ≡ window.wayOf (Mbc3 m) size addr
+selected-way m size addr e = ap (λ (t : Bool). pick t (Bytes (mbc3.ramAt m size addr)) (Timer m)) (sym e)
+
+-- and one whose RAM is selected
 module _ (m : mbc3-state.Mbc3) (size addr : ℕ) (e : m .memory ≡ true) {place : RamAt} (p : place ≡ mbc3.ramAt m size addr) where
+  pub selected-bytes : Bytes place ≡ window.wayOf (Mbc3 m) size addr
+  selected-bytes = ap Bytes p ∙ selected-way m size addr e
+
   pub selected-within : {n : ℕ} → n ≡ size → Inside place n
-  selected-within =
-      lent-within (Mbc3 m) size addr
-      (ap Bytes p ∙ ap (λ (t : Bool). pick t (Bytes (mbc3.ramAt m size addr)) (Timer m)) (sym e))
+  selected-within = lent-within (Mbc3 m) size addr selected-bytes
 
   pub selected-read : (ram : List ℕ) {b : ℕ} → b ≡ window.loaded ram place → b ≡ window.readOf (Mbc3 m) size ram addr
   unfolding window.readOf

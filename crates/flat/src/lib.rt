@@ -21,9 +21,9 @@ ghost use Rattle.bus.specs.Bus as bus;
 ghost use Rattle.bus.specs.declared.ReadAnswer.the-variants.{Refuse};
 ghost use Rattle.state_fields.specs.Fields.{areFlags};
 ghost use Rattle.state_fields.specs.ClockFields.{registersIn, clockIn};
-ghost use Rattle.states.specs.Reading.{flagsOf, mbc1In, timedIn, decodeOf};
+ghost use Rattle.states.specs.Reading.{flagsOf, mbc1In, timedIn, mapperAt, cartAt, decodeOf};
 ghost use Rattle.states.specs.OnState.{onState};
-ghost use Rattle.flat.specs.Kinds.{mapperAt, cartAt, fitKind, fitAt};
+ghost use Rattle.flat.specs.Kinds.{fitKind, fitAt};
 use access::BusRefusal;
 use access::Verdict;
 use bus::ReadAnswer;
@@ -131,25 +131,8 @@ pub fn fit(s: &[u8], kind: u8) -> bool
     fit_kind(s, kind)
 }
 
-// The mapper alone, for a call that needs no more of the cartridge.
-pub fn mapper_in(s: &[u8], kind: u8) -> Mapper
-    requires { ⌜ 64 ≤ length (now s) ⌝ }
-    ensures { λ r. ⌜ r ≡ mapperAt (now (s .entry)) kind ⌝ }
-{
-    match kind {
-        0 => Mapper::NoMapper(NoMapper::new()),
-        1 => Mapper::Mbc1(mbc1_in(s, false)),
-        2 => Mapper::Mbc1(mbc1_in(s, true)),
-        3 => Mapper::Mbc2(mbc2_in(s)),
-        4 => Mapper::Mbc3(untimed_in(s)),
-        5 => Mapper::Mbc3(timed_in(s)),
-        6 => Mapper::Mbc5(mbc5_in(s)),
-        _ => Mapper::NoMapper(NoMapper::new()),
-    }
-}
-
 // Whether a RAM area of this length goes with the state.
-fn is_area(s: &[u8], kind: u8, len: usize) -> bool
+pub fn is_area(s: &[u8], kind: u8, len: usize) -> bool
     requires { ⌜ 64 ≤ length (now s) ⌝ }
     ensures { λ r. ⌜ r ≡ eqb len (areaOf (cartAt (now (s .entry)) kind)) ⌝ }
 {
@@ -169,7 +152,7 @@ fn lent(s: &[u8], kind: u8, image: usize, ram: usize) -> bool
     both(image == length, is_area(s, kind, ram))
 }
 
-fn bank_0(s: &[u8], kind: u8) -> u16
+pub fn bank_0(s: &[u8], kind: u8) -> u16
     requires { ⌜ 64 ≤ length (now s) ⌝ }
     requires { ⌜ mapper.fitRegisters (mapperAt (now s) kind) ≡ true ⌝ }
     ensures { λ r. ⌜ r ≡ mapper.bank0 (mapperAt (now (s .entry)) kind) ⌝ }
@@ -181,7 +164,7 @@ fn bank_0(s: &[u8], kind: u8) -> u16
     }
 }
 
-fn bank_x(s: &[u8], kind: u8) -> u16
+pub fn bank_x(s: &[u8], kind: u8) -> u16
     requires { ⌜ 64 ≤ length (now s) ⌝ }
     requires { ⌜ mapper.fitRegisters (mapperAt (now s) kind) ≡ true ⌝ }
     ensures { λ r. ⌜ r ≡ mapper.bankX (mapperAt (now (s .entry)) kind) ⌝ }

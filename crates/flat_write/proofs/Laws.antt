@@ -2,11 +2,14 @@
 use mathlib.Core.Bool.{Bool, true, false, not}
 use mathlib.Core.List.{List}
 use mathlib.Core.Path.{_≡_, refl, sym, ap, _∙_}
-use Prim.Native.Nat.{ℕ}
-use lib.Dec.{eqb}
+use Prim.Native.Nat.{ℕ, zero, suc, _<_, _≤_}
+use native.Mathlib.Omega.{arith}
+use lib.Dec.{eqb, leb}
 use lib.ListN.{length}
+use Rattle.facts.specs.Choice.{both}
 use Rattle.bytes_le.specs.Little.{fieldAt}
 use Rattle.clock.specs.declared.AdvanceRefusal.the-variants as advance
+use Rattle.mbc3.specs.Registers as mbc3
 use Rattle.mapper.specs.Mappers as mapper
 use Rattle.mapper.specs.declared.Mapper.{Mapper}
 use Rattle.window.specs.Window as window
@@ -24,8 +27,9 @@ use Rattle.bus.specs.Bus.{writeVerdict, writeBy, areaBy, writeOf, areaAfter}
 use Rattle.bus.specs.Advance.{advanceOf, fromMapper}
 use Rattle.bus.proofs.Laws.{write-answered, area-answered, write-area, unfit-answer, mapper-answer}
 use Rattle.states.specs.Layout.{encodeOf}
-use Rattle.states.specs.Reading.{cartIn}
-use Rattle.flat.specs.Kinds.{mapperAt, cartAt, fitAt}
+use Rattle.states.specs.Reading.{cartIn, mapperAt, cartAt}
+use Rattle.flat.specs.Kinds.{fitAt}
+use Rattle.states.proofs.Laws.{of-kind}
 use Rattle.flat.proofs.Laws.{area-at, unfit-call, fit-cart, fit-call, fit-judged}
 use Rattle.flat_write.specs.Calls.{wroteBy, writeState, wroteOf, stateWritten, areaWritten, passedBy, advanceState, passedOf, stateAdvanced}
 use Rattle.flat_write.specs.declared.Wrote.{Wrote}
@@ -33,38 +37,51 @@ use Rattle.flat_write.specs.declared.Wrote.the-variants as wrote
 use Rattle.flat_write.specs.declared.Passed.{Passed}
 use Rattle.flat_write.specs.declared.Passed.the-variants as passed
 
+-- ---- a write to the registers, by the kind
+
+-- kinds 4 and 5 are the MBC3's
+pub selection-at : (s : List ℕ) (k addr byte : ℕ) → 4 ≤ k → k < 6
+    → both (both (leb 0x4000 addr) (leb addr 0x5FFF)) (not (mbc3.selectable byte)) ≡ mapper.badSelection (mapperAt s k) addr byte
+unfolding mapperAt
+selection-at s zero addr byte l h = absurd (omega arith)
+selection-at s (suc zero) addr byte l h = absurd (omega arith)
+selection-at s (suc (suc zero)) addr byte l h = absurd (omega arith)
+selection-at s (suc (suc (suc zero))) addr byte l h = absurd (omega arith)
+selection-at s (suc (suc (suc (suc zero)))) addr byte l h = refl
+selection-at s (suc (suc (suc (suc (suc zero))))) addr byte l h = refl
+selection-at s (suc (suc (suc (suc (suc (suc k)))))) addr byte l h = absurd (omega arith)
+
+pub no-selection : (s : List ℕ) (k addr byte : ℕ) → (4 ≤ k → 6 ≤ k) → false ≡ mapper.badSelection (mapperAt s k) addr byte
+unfolding mapperAt
+no-selection s zero addr byte h = refl
+no-selection s (suc zero) addr byte h = refl
+no-selection s (suc (suc zero)) addr byte h = refl
+no-selection s (suc (suc (suc zero))) addr byte h = refl
+no-selection s (suc (suc (suc (suc zero)))) addr byte h = absurd (omega (arith, h (omega arith)))
+no-selection s (suc (suc (suc (suc (suc zero))))) addr byte h = absurd (omega (arith, h (omega arith)))
+no-selection s (suc (suc (suc (suc (suc (suc zero)))))) addr byte h = refl
+no-selection s (suc (suc (suc (suc (suc (suc (suc k))))))) addr byte h = refl
+
+pub register-at : (s : List ℕ) (addr byte : ℕ) {kind k : ℕ} {m n : Mapper} {t : List ℕ} → kind ≡ k → m ≡ mapperAt s k
+    → n ≡ mapper.written m addr byte → t ≡ encodeOf (cartIn s n)
+    → t ≡ encodeOf (cartIn s (mapper.written (mapperAt s kind) addr byte))
+register-at s addr byte e p d h =
+    of-kind (λ (i : Mapper). encodeOf (cartIn s (mapper.written i addr byte))) s e p
+    (h ∙ ap (λ (i : Mapper). encodeOf (cartIn s i)) d)
+
 -- ---- a write to a fit state, by the verdict
 
-pub judged-by : (m : Mapper) (size len addr byte : ℕ) {l b : Bool} {v : Verdict} → l ≡ eqb len (mapper.areaOf m size)
-    → b ≡ mapper.badSelection m addr byte → v ≡ verdictBy addr (noesBy true l addr b)
-    → v ≡ verdictBy addr (noesBy true (eqb len (mapper.areaOf m size)) addr (mapper.badSelection m addr byte))
-judged-by m size len addr byte p q e = rw (sym p, sym q) e
-
-module _ (s ram : List ℕ) (addr byte kind : ℕ) {m : Mapper} {z : ℕ} {v : Verdict} (f : fitCart (cartAt s kind) ≡ true)
-    (p : m ≡ mapperAt s kind) (q : z ≡ fieldAt 8 s 24)
-    (e : v ≡ verdictBy addr (noesBy true (eqb (length ram) (mapper.areaOf m z)) addr (mapper.badSelection m addr byte))) where
+module _ (s ram : List ℕ) (addr byte kind : ℕ) {lent bad : Bool} {v : Verdict} (f : fitCart (cartAt s kind) ≡ true)
+    (p : lent ≡ eqb (length ram) (areaOf (cartAt s kind))) (q : bad ≡ mapper.badSelection (mapperAt s kind) addr byte)
+    (e : v ≡ verdictBy addr (noesBy true lent addr bad)) where
   abbrev cart : Cartridge
   cart = cartAt s kind
-
-  abbrev lent : Bool
-  lent = eqb (length ram) (mapper.areaOf m z)
-
-  abbrev bad : Bool
-  bad = mapper.badSelection m addr byte
-
-  same-lent : lent ≡ eqb (length ram) (areaOf cart)
-  same-lent =
-      ap (λ (i : Mapper). eqb (length ram) (mapper.areaOf i z)) p
-      ∙ ap (λ (i : ℕ). eqb (length ram) (mapper.areaOf (mapperAt s kind) i)) q
-
-  same-bad : bad ≡ mapper.badSelection (mapperAt s kind) addr byte
-  same-bad = ap (λ (i : Mapper). mapper.badSelection i addr byte) p
 
   judged : v ≡ verdictOf cart lent addr bad
   judged = fit-judged cart addr lent bad f e
 
-  pub area-lent : v ≡ Ram → length ram ≡ mapper.areaOf m z
-  area-lent g = area-at s {kind = kind} refl p q (write-area cart addr byte ram same-lent same-bad judged g)
+  pub area-lent : {m : Mapper} {z : ℕ} → v ≡ Ram → m ≡ mapperAt s kind → z ≡ fieldAt 8 s 24 → length ram ≡ mapper.areaOf m z
+  area-lent g d h = area-at s {kind = kind} refl d h (write-area cart addr byte ram p q judged g)
 
   -- the answer, and what is left of the state and the area
   abbrev Left : Wrote → List ℕ → List ℕ → Type 0
@@ -76,28 +93,25 @@ module _ (s ram : List ℕ) (addr byte kind : ℕ) {m : Mapper} {z : ℕ} {v : V
       → t ≡ writeState s (writeBy cart addr byte u) → a ≡ areaBy cart ram addr byte u
       → Left r t a
   left g x y w =
-      let answer = write-answered cart addr byte ram same-lent same-bad judged g in (
+      let answer = write-answered cart addr byte ram p q judged g in (
         x ∙ ap wroteBy answer,
-        (y ∙ ap (writeState s) answer, w ∙ area-answered cart addr byte ram same-lent same-bad judged g),
+        (y ∙ ap (writeState s) answer, w ∙ area-answered cart addr byte ram p q judged g),
       )
 
-  pub rom-left : {n : Mapper} {t : List ℕ} → v ≡ Rom → n ≡ mapper.written m addr byte → t ≡ encodeOf (cartIn s n) → Left wrote.Done t ram
-  rom-left g d h =
-      left g refl
-      (h ∙ ap (λ (i : Mapper). encodeOf (cartIn s i)) (d ∙ ap (λ (i : Mapper). mapper.written i addr byte) p))
-      refl
+  pub rom-left : {t : List ℕ} → v ≡ Rom → t ≡ encodeOf (cartIn s (mapper.written (mapperAt s kind) addr byte)) → Left wrote.Done t ram
+  rom-left g h = left g refl h refl
 
-  pub ram-left : {n : Mapper} {t a : List ℕ} → v ≡ Ram → n ≡ window.mapperAfter m z addr byte → t ≡ encodeOf (cartIn s n)
-      → a ≡ window.areaAfter m z ram addr byte
+  pub ram-left : {m n : Mapper} {z : ℕ} {t a : List ℕ} → v ≡ Ram → m ≡ mapperAt s kind → z ≡ fieldAt 8 s 24
+      → n ≡ window.mapperAfter m z addr byte → t ≡ encodeOf (cartIn s n) → a ≡ window.areaAfter m z ram addr byte
       → Left wrote.Done t a
-  ram-left g d h w =
+  ram-left {z = z} g x y d h w =
       left g refl
       (h
       ∙ ap (λ (i : Mapper). encodeOf (cartIn s i))
-      (d ∙ ap (λ (i : Mapper). window.mapperAfter i z addr byte) p
-      ∙ ap (λ (i : ℕ). window.mapperAfter (mapperAt s kind) i addr byte) q))
-      (w ∙ ap (λ (i : Mapper). window.areaAfter i z ram addr byte) p
-      ∙ ap (λ (i : ℕ). window.areaAfter (mapperAt s kind) i ram addr byte) q)
+      (d ∙ ap (λ (i : Mapper). window.mapperAfter i z addr byte) x
+      ∙ ap (λ (i : ℕ). window.mapperAfter (mapperAt s kind) i addr byte) y))
+      (w ∙ ap (λ (i : Mapper). window.areaAfter i z ram addr byte) x
+      ∙ ap (λ (i : ℕ). window.areaAfter (mapperAt s kind) i ram addr byte) y)
 
   pub refused-left : {w : BusRefusal} → v ≡ verdict.Refuse w → Left (wrote.Refuse w) s ram
   refused-left g = left g refl refl refl

@@ -1,20 +1,26 @@
 // The calls that change a state, straight on its bytes. Only the mapper is built: what was mounted stays in the bytes. Each answers
 // as the bus does on the cartridge that the bytes are, and a refused call has changed no lent byte.
 ghost use mathlib.Core.Bool.{true};
+ghost use mathlib.Core.List.{List};
 ghost use mathlib.Core.Path.{_≡_};
-ghost use lib.Dec.{eqb};
+ghost use Prim.Native.Nat.{ℕ};
 ghost use Rattle.mapper.specs.Mappers as mapper;
 ghost use Rattle.cartridge.specs.Fit.{fitCart};
-ghost use Rattle.access.specs.Verdict.{noesBy, verdictBy};
 ghost use Rattle.bus.specs.Bus as bus;
 ghost use Rattle.bus.specs.Advance as advancing;
-ghost use Rattle.states.specs.Reading.{cartIn};
-ghost use Rattle.flat.specs.Kinds.{cartAt};
+ghost use Rattle.states.specs.Layout.{encodeOf};
+ghost use Rattle.states.specs.Reading.{cartIn, mapperAt, cartAt};
 ghost use Rattle.flat_write.specs.Calls.{wroteBy, writeState, wroteOf, stateWritten, areaWritten, passedBy, advanceState, passedOf, stateAdvanced};
 use access::BusRefusal;
 use access::Verdict;
 use clock::AdvanceRefusal;
+use facts::both;
 use mapper::Mapper;
+use states::mbc1_in;
+use states::mbc2_in;
+use states::mbc5_in;
+use states::timed_in;
+use states::untimed_in;
 
 pub enum Wrote {
     Done,
@@ -26,16 +32,48 @@ pub enum Passed {
     Refuse(AdvanceRefusal),
 }
 
-// The verdict on a write to a fit state of this mapper and RAM size, lent an area of len bytes.
-fn judge(m: Mapper, size: usize, len: usize, addr: u16, byte: u8) -> Verdict
-    ensures { λ r. ⌜ r ≡ verdictBy addr (noesBy true (eqb len (mapper.areaOf m size)) addr (mapper.badSelection m addr byte)) ⌝ }
+// Whether a write selects what there is not: only an MBC3 has a selection.
+fn bad_selection(kind: u8, addr: u16, byte: u8) -> bool
+    ensures { λ r. ⌜ ((s : List ℕ) → r ≡ mapper.badSelection (mapperAt s kind) addr byte) ⌝ }
 {
-    access::decide(
-        true,
-        m.is_area(size, len),
-        addr,
-        m.bad_selection(addr, byte),
-    )
+    match kind {
+        4 | 5 => both(both(0x4000 <= addr, addr <= 0x5FFF), !mbc3::selects(byte)),
+        _ => false,
+    }
+}
+
+// A byte written to the registers of a kind: a Mapper built here would be moved about and told apart again.
+fn write_register(s: &mut [u8; 64], kind: u8, addr: u16, byte: u8)
+    ensures { λ _. ⌜ now (s .exit) ≡ encodeOf (cartIn (now (s .entry)) (mapper.written (mapperAt (now (s .entry)) kind) addr byte)) ⌝ }
+{
+    match kind {
+        0 => states::put_none(s),
+        1 => {
+            let m = mbc1_in(s, false);
+            states::put_mbc1(s, m.write_register(addr, byte));
+        }
+        2 => {
+            let m = mbc1_in(s, true);
+            states::put_mbc1(s, m.write_register(addr, byte));
+        }
+        3 => {
+            let m = mbc2_in(s);
+            states::put_mbc2(s, m.write_register(addr, byte));
+        }
+        4 => {
+            let m = untimed_in(s);
+            states::put_mbc3(s, m.write_register(addr, byte));
+        }
+        5 => {
+            let m = timed_in(s);
+            states::put_mbc3(s, m.write_register(addr, byte));
+        }
+        6 => {
+            let m = mbc5_in(s);
+            states::put_mbc5(s, m.write_register(addr, byte));
+        }
+        _ => states::put_none(s),
+    }
 }
 
 fn write_fit(s: &mut [u8; 64], kind: u8, ram: &mut [u8], addr: u16, byte: u8) -> Wrote
@@ -44,14 +82,15 @@ fn write_fit(s: &mut [u8; 64], kind: u8, ram: &mut [u8], addr: u16, byte: u8) ->
     ensures { λ _. ⌜ now (s .exit) ≡ writeState (now (s .entry)) (bus.writeOf (cartAt (now (s .entry)) kind) (now (ram .entry)) addr byte) ⌝ }
     ensures { λ _. ⌜ now (ram .exit) ≡ bus.areaAfter (cartAt (now (s .entry)) kind) (now (ram .entry)) addr byte ⌝ }
 {
-    let size = bytes_le::read_u64(s, 24) as usize;
-    let m = flat::mapper_in(s, kind);
-    match judge(m, size, ram.len(), addr, byte) {
+    let lent = flat::is_area(s, kind, ram.len());
+    match access::decide(true, lent, addr, bad_selection(kind, addr, byte)) {
         Verdict::Rom => {
-            states::put(s, m.write_register(addr, byte));
+            write_register(s, kind, addr, byte);
             Wrote::Done
         }
         Verdict::Ram => {
+            let size = bytes_le::read_u64(s, 24) as usize;
+            let m = states::mapper_in(s, kind);
             states::put(s, window::write(m, size, ram, addr, byte));
             Wrote::Done
         }
@@ -94,6 +133,6 @@ pub fn advance(s: &mut [u8; 64], n: u64) -> Passed
     if !flat::fit(s, kind) {
         return Passed::Refuse(AdvanceRefusal::Unfit);
     }
-    let m = flat::mapper_in(s, kind);
+    let m = states::mapper_in(s, kind);
     advance_mapper(s, m, n)
 }

@@ -4,9 +4,9 @@ use mathlib.Core.List.{List, [], _∷_}
 use mathlib.Core.Path.{_≡_, refl, ap, _∙_}
 use Prim.Native.Nat.{ℕ, _*_, _^_, _<_}
 use native.Mathlib.Omega.{arith}
-use lib.Dec.{eqb, leb}
+use lib.Dec.{eqb, ltb, leb}
 use lib.ListN.{replicate}
-use Rattle.facts.specs.Choice.{pick, bit}
+use Rattle.facts.specs.Choice.{pick, both, bit}
 use Rattle.facts.proofs.ChoiceLaws.{both-true, bit-lt, pick-has}
 use Rattle.bytes_le.specs.Little.{fieldAt}
 use Rattle.clock.specs.Access.{startAt}
@@ -25,7 +25,7 @@ use Rattle.state_fields.specs.Fields.{Field, stored, flagAt, isFlag, areFlags}
 use Rattle.state_fields.proofs.Laws.{registers-of, clock-of}
 use Rattle.state_fields.proofs.StoredLaws.{clear, nth, lasting, reads-back}
 use Rattle.states.specs.Layout.{kindOf, mbc3Fields, mapper, fieldsOf, encodeOf}
-use Rattle.states.specs.Reading.{flagsOf, mbc1In, cartIn, byKind, decodeOf}
+use Rattle.states.specs.Reading.{flagsOf, mbc1In, cartIn, mapperAt, cartAt, isState, decodeOf}
 use Rattle.states.specs.Plain.{plain}
 use Rattle.states.specs.Widths.{Widths}
 use Rattle.states.specs.declared.Decoded.the-variants.{To, NoState}
@@ -103,15 +103,16 @@ module _ (c : Cartridge) where
 
   -- the answer by the kind
   module _ (w : Widths c) (k : ℕ) (m : Mapper) {n : Mapper} where
-    back-to : kindOf (c .mapper) ≡ k → areFlags (encodeOf c) (flagsOf k) ≡ true → byKind (encodeOf c) k ≡ To (cartIn (encodeOf c) n)
+    back-to : kindOf (c .mapper) ≡ k → areFlags (encodeOf c) (flagsOf k) ≡ true
+        → pick (ltb k 7) (To (cartAt (encodeOf c) k)) NoState ≡ To (cartIn (encodeOf c) n)
         → n ≡ m
         → decodeOf (encodeOf c) ≡ To (withMapper c m)
     unfolding decodeOf
     back-to e f b p =
         let s = encodeOf c in
         let kind = kind-back ∙ e in
-        ap (λ (x : ℕ). pick (areFlags s (flagsOf x)) (byKind s x) NoState) kind
-        ∙ ap (λ (g : Bool). pick g (byKind s k) NoState) f
+        ap (λ (x : ℕ). pick (isState s x) (To (cartAt s x)) NoState) kind
+        ∙ ap (λ (g : Bool). pick (both g (ltb k 7)) (To (cartAt s k)) NoState) f
         ∙ b
         ∙ ap (λ (x : Mapper). To (cartIn s x)) p
         ∙ cart-back w m
@@ -124,7 +125,7 @@ Back c = Widths c → decodeOf (encodeOf c) ≡ To (plain c)
 
 module _ (c : Cartridge) where
   none-back : (m : none-state.NoMapper) → Back (withMapper c (NoMapper m))
-  unfolding areFlags flagsOf byKind plain
+  unfolding areFlags flagsOf mapperAt plain
   none-back m w =
       let d = withMapper c (NoMapper m) in back-to d w 0 (NoMapper m) refl (both-true (battery-good d) refl) refl refl
 
@@ -148,7 +149,7 @@ module _ (c : Cartridge) where
         (number fs 1 8 refl (w .mapper .1))
 
   mbc1-back : (t : Bool) (m : mbc1-state.Mbc1) → Back (withMapper c (Mbc1 (one t m)))
-  unfolding flagsOf byKind plain
+  unfolding flagsOf mapperAt plain
   mbc1-back true m w =
       back-to (withMapper c (Mbc1 (one true m))) w 2 (Mbc1 (one true m)) refl (mbc1-good true m) refl (ap Mbc1 (mbc1-fields true m w))
   mbc1-back false m w =
@@ -156,7 +157,7 @@ module _ (c : Cartridge) where
       (ap Mbc1 (mbc1-fields false m w))
 
   mbc2-back : (m : mbc2-state.Mbc2) → Back (withMapper c (Mbc2 m))
-  unfolding encodeOf areFlags flagsOf byKind plain
+  unfolding encodeOf areFlags flagsOf mapperAt plain
   mbc2-back m w =
       let d = withMapper c (Mbc2 m) in
       let fs = fieldsOf d in
@@ -164,7 +165,7 @@ module _ (c : Cartridge) where
       (ap Mbc2 (mbc2-of (flag fs (m .enabled) 5 refl refl) (number fs 1 7 refl (w .mapper))))
 
   mbc5-back : (m : mbc5-state.Mbc5) → Back (withMapper c (Mbc5 m))
-  unfolding encodeOf areFlags flagsOf byKind plain
+  unfolding encodeOf areFlags flagsOf mapperAt plain
   mbc5-back m w =
       let d = withMapper c (Mbc5 m) in
       let fs = fieldsOf d in
@@ -177,7 +178,7 @@ module _ (c : Cartridge) where
   three t m = mbc3.mbc3 t (m .enabled) (m .bank) (m .memory) (m .ram) (m .register) (m .clock)
 
   untimed-back : (m : mbc3-state.Mbc3) → Back (withMapper c (Mbc3 (three false m)))
-  unfolding encodeOf areFlags flagsOf byKind plain
+  unfolding encodeOf areFlags flagsOf mapperAt plain
   untimed-back m w =
       let d = withMapper c (Mbc3 (three false m)) in
       let fs = fieldsOf d in
@@ -190,7 +191,7 @@ module _ (c : Cartridge) where
       (number fs 1 8 refl (w .mapper .ram)) refl refl))
 
   timed-back : (m : mbc3-state.Mbc3) → Back (withMapper c (Mbc3 (three true m)))
-  unfolding encodeOf areFlags flagsOf byKind plain
+  unfolding encodeOf areFlags flagsOf mapperAt plain
   timed-back m w =
       let d = withMapper c (Mbc3 (three true m)) in
       let fs = fieldsOf d in

@@ -4,22 +4,24 @@ use mathlib.Core.List.{List, [], _∷_}
 use mathlib.Core.Path.{_≡_, refl, sym, ap, _∙_}
 use Prim.Native.Nat.{ℕ, suc, _≤_}
 use native.Mathlib.Omega.{arith}
+use lib.Dec.{ltb}
 use lib.ListN.{replicate, List·getD-eq-default}
 use Rattle.facts.specs.Choice.{pick, both}
 use Rattle.bytes_le.specs.Little.{fieldAt}
 use Rattle.clock.specs.declared.Clock.{Clock}
+use Rattle.no_mapper.specs.Registers as none
 use Rattle.mbc1.specs.Registers as mbc1
 use Rattle.mbc2.specs.Registers as mbc2
 use Rattle.mbc3.specs.Registers as mbc3
 use Rattle.mbc3.specs.declared.Mbc3 as mbc3-state
 use Rattle.mbc5.specs.Registers as mbc5
 use Rattle.mapper.specs.declared.Mapper.{Mapper}
-use Rattle.mapper.specs.declared.Mapper.the-variants.{Mbc3}
+use Rattle.mapper.specs.declared.Mapper.the-variants.{NoMapper, Mbc3}
 use Rattle.state_fields.specs.Fields.{stored, flagAt, isFlag, areFlags}
 use Rattle.state_fields.specs.ClockFields.{clock}
 use Rattle.state_fields.proofs.Laws.{store-on, flags-one, flags-both}
 use Rattle.states.specs.Layout.{kindOf, boardOf, registers, mbc3Fields, mapper, cartFrom, encodeOf}
-use Rattle.states.specs.Reading.{flagLists, flagsOf, mbc3In, cartIn, carts, mappersIn, byKind, decodeOf}
+use Rattle.states.specs.Reading.{flagLists, flagsOf, mbc3In, cleared, cartIn, mappersIn, mapperAt, cartAt, isState, decodeOf}
 use Rattle.states.specs.declared.Decoded.{Decoded}
 use Rattle.states.specs.declared.Decoded.the-variants.{To, NoState}
 
@@ -47,11 +49,18 @@ unfolding encodeOf stored
 encoded m battery banks length size e p q =
     store-on (mapper m) (p ∙ ap (λ (k : ℕ). stored (boardOf k battery banks length size) (replicate 64 0)) e) q
 
--- the parts as bytes have them, with this mapper
-pub encoded-in : (s : List ℕ) (m : Mapper) {b : Bool} {n l z : ℕ} {r : List ℕ} → b ≡ flagAt s 1 → n ≡ fieldAt 2 s 8 → l ≡ fieldAt 8 s 16
-    → z ≡ fieldAt 8 s 24 → r ≡ encodeOf (cartFrom m b n l z)
-    → r ≡ encodeOf (cartIn s m)
-encoded-in s m p q e f g = cc
+-- and the same where what was mounted stays
+pub cleared-in : (s : List ℕ) (kind : ℕ) {b : Bool} {n l z : ℕ} {r : List ℕ} → b ≡ flagAt s 1 → n ≡ fieldAt 2 s 8 → l ≡ fieldAt 8 s 16
+    → z ≡ fieldAt 8 s 24 → r ≡ stored (boardOf kind b n l z) (replicate 64 0)
+    → r ≡ cleared s kind
+cleared-in s kind p q e f g = cc
+
+pub put-in : (s : List ℕ) (m : Mapper) {k : ℕ} {r t : List ℕ} → k ≡ kindOf m → r ≡ cleared s k → t ≡ stored (mapper m) r
+    → t ≡ encodeOf (cartIn s m)
+put-in s m = encoded m (flagAt s 1) (fieldAt 2 s 8) (fieldAt 8 s 16) (fieldAt 8 s 24)
+
+pub put-told : {m n : Mapper} (s : List ℕ) {r : List ℕ} → m ≡ n → r ≡ encodeOf (cartIn s n) → r ≡ encodeOf (cartIn s m)
+put-told s e p = p ∙ ap (λ (x : Mapper). encodeOf (cartIn s x)) (sym e)
 
 -- ---- flags
 
@@ -78,25 +87,28 @@ pub flags-unknown : (s : List ℕ) (kind : ℕ) → 7 ≤ kind → true ≡ areF
 unfolding areFlags flagsOf
 flags-unknown s kind h = ap (areFlags s) (sym (List·getD-eq-default flagLists [] h))
 
-pub no-kind : (s : List ℕ) (kind : ℕ) → 7 ≤ kind → NoState ≡ byKind s kind
-unfolding byKind
-no-kind s kind h = sym (List·getD-eq-default (carts s (mappersIn s)) NoState h)
+pub no-mapper-at : (s : List ℕ) (kind : ℕ) → 7 ≤ kind → NoMapper none.start ≡ mapperAt s kind
+unfolding mapperAt
+no-mapper-at s kind h = sym (List·getD-eq-default (mappersIn s) (NoMapper none.start) h)
+
+-- what holds of the mapper of a kind holds of the bytes of that kind
+pub of-kind : {A : Type 0} (f : Mapper → A) (s : List ℕ) {kind k : ℕ} {m : Mapper} {r : A} → kind ≡ k → m ≡ mapperAt s k → r ≡ f m
+    → r ≡ f (mapperAt s kind)
+of-kind f s e p q = q ∙ ap f p ∙ ap (λ (n : ℕ). f (mapperAt s n)) (sym e)
 
 -- ---- the answer
 
-pub kind-to : (s : List ℕ) (m : Mapper) {kind k : ℕ} {n : Mapper} {r : Decoded} → kind ≡ k → n ≡ m → r ≡ To (cartIn s n)
-    → To (cartIn s m) ≡ byKind s k
-    → r ≡ byKind s kind
-kind-to s m h p q e = q ∙ ap (λ (x : Mapper). To (cartIn s x)) p ∙ e ∙ ap (byKind s) (sym h)
-
-pub decoded : (s : List ℕ) {kind : ℕ} {t : Bool} {r : Decoded} (u : Bool) → kind ≡ fieldAt 1 s 0 → t ≡ areFlags s (flagsOf kind)
-    → t ≡ u → r ≡ pick u (byKind s kind) NoState
-    → r ≡ decodeOf s
+pub decoded-at : (s : List ℕ) {kind : ℕ} → kind ≡ fieldAt 1 s 0 → pick (isState s kind) (To (cartAt s kind)) NoState ≡ decodeOf s
 unfolding decodeOf
-decoded s {kind} u p q e h =
+decoded-at s p = ap (λ (k : ℕ). pick (isState s k) (To (cartAt s k)) NoState) p
+
+pub decoded : (s : List ℕ) {kind : ℕ} {f b : Bool} {r : Decoded} (u : Bool) → kind ≡ fieldAt 1 s 0 → f ≡ areFlags s (flagsOf kind)
+    → b ≡ both f (ltb kind 7) → b ≡ u → r ≡ pick u (To (cartAt s kind)) NoState
+    → r ≡ decodeOf s
+decoded s {kind} u p q e g h =
     h
-    ∙ ap (λ (b : Bool). pick b (byKind s kind) NoState) (sym e ∙ q)
-    ∙ ap (λ (k : ℕ). pick (areFlags s (flagsOf k)) (byKind s k) NoState) p
+    ∙ ap (λ (b : Bool). pick b (To (cartAt s kind)) NoState) (sym g ∙ e ∙ ap (λ (f : Bool). both f (ltb kind 7)) q)
+    ∙ decoded-at s p
 
 -- ---- reading, field by field
 
@@ -124,5 +136,5 @@ mbc5-of p q r = cc
 
 -- ---- by the kind
 
-pub kind-told : {m : Mapper} {x : mbc3-state.Mbc3} (t : Bool) → m ≡ Mbc3 x → x .timer ≡ t → pick t 5 4 ≡ kindOf m
-kind-told t e p = ap (λ (b : Bool). pick b 5 4) (sym p) ∙ ap kindOf (sym e)
+pub kind-told : {m n : Mapper} {k : ℕ} → m ≡ n → k ≡ kindOf n → k ≡ kindOf m
+kind-told e p = p ∙ ap kindOf (sym e)

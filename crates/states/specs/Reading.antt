@@ -2,10 +2,11 @@
 use mathlib.Core.Bool.{Bool, true, false}
 use mathlib.Core.List.{List, [], _∷_}
 use Prim.Native.Nat.{ℕ}
-use lib.ListN.{getD}
-use Rattle.facts.specs.Choice.{pick}
+use lib.Dec.{ltb}
+use lib.ListN.{getD, replicate}
+use Rattle.facts.specs.Choice.{pick, both}
 use Rattle.bytes_le.specs.Little.{fieldAt}
-use Rattle.state_fields.specs.Fields.{flagAt, areFlags}
+use Rattle.state_fields.specs.Fields.{stored, flagAt, areFlags}
 use Rattle.state_fields.specs.ClockFields.{clockFlags, clockIn}
 use Rattle.clock.specs.Access.{startAt}
 use Rattle.clock.specs.declared.Clock.{Clock}
@@ -21,7 +22,7 @@ use Rattle.mbc5.specs.declared.Mbc5 as mbc5-state
 use Rattle.mapper.specs.declared.Mapper.{Mapper}
 use Rattle.mapper.specs.declared.Mapper.the-variants.{NoMapper, Mbc1, Mbc2, Mbc3, Mbc5}
 use Rattle.cartridge.specs.declared.Cartridge.{Cartridge}
-use Rattle.states.specs.Layout.{cartFrom}
+use Rattle.states.specs.Layout.{boardOf, cartFrom}
 use Rattle.states.specs.declared.Decoded.{Decoded}
 use Rattle.states.specs.declared.Decoded.the-variants.{To, NoState}
 
@@ -63,6 +64,10 @@ mbc5In s = mbc5.mbc5 (flagAt s 2) (fieldAt 2 s 4) (fieldAt 1 s 6)
 abbrev pub cartIn : List ℕ → Mapper → Cartridge
 cartIn s m = cartFrom m (flagAt s 1) (fieldAt 2 s 8) (fieldAt 8 s 16) (fieldAt 8 s 24)
 
+-- what was mounted, as bytes of a kind with nothing else
+abbrev pub cleared : List ℕ → ℕ → List ℕ
+cleared s kind = stored (boardOf kind (flagAt s 1) (fieldAt 2 s 8) (fieldAt 8 s 16) (fieldAt 8 s 24)) (replicate 64 0)
+
 -- in the order of the kinds
 abbrev pub mappersIn : List ℕ → List Mapper
 mappersIn s =
@@ -75,13 +80,16 @@ mappersIn s =
     ∷ Mbc5 (mbc5In s)
     ∷ []
 
-abbrev pub carts : List ℕ → List Mapper → List Decoded
-carts s [] = []
-carts s (m ∷ ms) = To (cartIn s m) ∷ carts s ms
+-- the mapper of a kind; of an unknown one, none
+unfoldable pub mapperAt : List ℕ → ℕ → Mapper
+mapperAt s kind = getD (mappersIn s) kind (NoMapper none.start)
 
-unfoldable pub byKind : List ℕ → ℕ → Decoded
-byKind s kind = getD (carts s (mappersIn s)) kind NoState
+abbrev pub cartAt : List ℕ → ℕ → Cartridge
+cartAt s kind = cartIn s (mapperAt s kind)
 
--- no state: an unknown kind, or a flag of the kind that is neither 0 nor 1
+-- whether bytes of a kind are a state: the kind is known, and its flags are flags
+abbrev pub isState : List ℕ → ℕ → Bool
+isState s kind = both (areFlags s (flagsOf kind)) (ltb kind 7)
+
 unfoldable pub decodeOf : List ℕ → Decoded
-decodeOf s = pick (areFlags s (flagsOf (fieldAt 1 s 0))) (byKind s (fieldAt 1 s 0)) NoState
+decodeOf s = pick (isState s (fieldAt 1 s 0)) (To (cartAt s (fieldAt 1 s 0))) NoState

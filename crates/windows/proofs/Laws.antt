@@ -1,7 +1,7 @@
 -- What the windows' code rests on: places that fit 32 bits, and the answers by an address and by how the RAM is mapped. Assumes nothing.
 use mathlib.Core.Bool.{Bool, true, false}
 use mathlib.Core.List.{List, [], _∷_}
-use mathlib.Core.Path.{_≡_, refl, sym}
+use mathlib.Core.Path.{_≡_, refl, sym, ap, _∙_}
 use Prim.Native.Nat.{ℕ, _+_, _%_, _<_, _≤_}
 use native.Mathlib.Omega.{arith}
 use lib.Dec.{ltb}
@@ -13,7 +13,7 @@ use Rattle.banking.specs.declared.RamAt.{RamAt}
 use Rattle.banking.specs.declared.RamAt.the-variants.{At, NotMapped}
 use Rattle.banking.proofs.Laws.{rom-inside}
 use Rattle.image.specs.Image.{byteAt}
-use Rattle.mapper.specs.Mappers.{areaOf}
+use Rattle.mapper.specs.Mappers.{areaOf, bankAt}
 use Rattle.mapper.specs.declared.Mapper.{Mapper}
 use Rattle.mapper.proofs.Laws.{area-le}
 use Rattle.window.specs.Window.{wayOf, Within}
@@ -25,9 +25,10 @@ use Rattle.cartridge.specs.declared.Cartridge.{Cartridge}
 use Rattle.cartridge.proofs.Laws.{fit-registers, fit-banks, fit-count, fit-size}
 use Rattle.access.specs.Verdict.{inRam}
 use Rattle.access.proofs.Laws.{ram-window, below-ram}
-use Rattle.windows.specs.Windows.{Small, Stands}
+use Rattle.windows.specs.Windows.{Small, Stands, byWay, ramAt, romAt, windowsFrom, windowsBy}
 use Rattle.windows.specs.Through.{placeIn, ramSeen, seenOf, putBy, putOf, areaBy, areaAfter}
 use Rattle.windows.specs.declared.Windows.{Windows}
+use Rattle.windows.specs.declared.RamWindow.{RamWindow}
 use Rattle.windows.specs.declared.Seen.the-variants.{Byte}
 use Rattle.windows.specs.declared.Seen.the-variants as read
 use Rattle.windows.specs.declared.Put.the-variants as write
@@ -47,8 +48,20 @@ pub way-small : (m : Mapper) (size addr : ℕ) {w : Way} → size ≤ 0x20000 �
 way-small m size addr {w} h e =
     small w size (areaOf m size) (omega (arith, area-le m size)) (lent-within m size addr e refl)
 
+-- the window that a way leads to
+pub way-shown : (m : Mapper) (size : ℕ) {w : Way} {r : RamWindow} → w ≡ wayOf m size 0xA000 → r ≡ byWay w size → r ≡ ramAt m size
+unfolding ramAt
+way-shown m size e h = h ∙ ap (λ (w : Way). byWay w size) e
+
 pub rom-small : (banks bank addr : ℕ) → 0 < banks → banks ≤ 512 → romPlace banks bank addr < 0x800000
 rom-small banks bank addr h l = omega (arith, rom-inside banks bank addr h)
+
+-- the windows from the banks of the two below 0x8000 and the window of the RAM
+pub parts-stand : (banks size : ℕ) (m : Mapper) {part : RamWindow} {low rom0 high romx : ℕ} → part ≡ ramAt m size
+    → low ≡ bankAt m 0 → rom0 ≡ romPlace banks low 0 → high ≡ bankAt m 0x4000 → romx ≡ romPlace banks high 0x4000
+    → windowsFrom rom0 romx part ≡ windowsBy banks size m
+unfolding windowsBy romAt
+parts-stand banks size m p l e h f = rw (p, e, l, f, h)
 
 pub fit-stands : (c : Cartridge) → fitCart c ≡ true → Stands (c .banks) (c .size) (c .mapper)
 fit-stands c e = record { some = fit-banks c e; few = fit-count c e; small = fit-size c e; fit = fit-registers c e }

@@ -60,15 +60,12 @@ ramAt m size = byWay (wayOf m size 0xA000) size
 unfoldable pub romAt : ℕ → Mapper → ℕ → ℕ
 romAt banks m addr = romPlace banks (bankAt m addr) addr
 
+abbrev pub windowsFrom : ℕ → ℕ → RamWindow → Windows
+windowsFrom rom0 romx part =
+    record { rom0 = rom0; romx = romx; ram = part .ram; mask = part .mask; how = part .how }
+
 unfoldable pub windowsBy : ℕ → ℕ → Mapper → Windows
-windowsBy banks size m =
-    record {
-      rom0 = romAt banks m 0;
-      romx = romAt banks m 0x4000;
-      ram = ramAt m size .ram;
-      mask = ramAt m size .mask;
-      how = ramAt m size .how;
-    }
+windowsBy banks size m = windowsFrom (romAt banks m 0) (romAt banks m 0x4000) (ramAt m size)
 
 -- what windows ask of these three, and a fit cartridge gives
 pub record Stands (banks size : ℕ) (m : Mapper) : Type 0 where

@@ -1,12 +1,10 @@
 // Where the three windows of a cartridge stand, as five numbers that a caller keeps. While they hold, reads and RAM writes need no
 // look at the state; only a write below 0x8000 or a save that is read makes others of them.
-ghost use mathlib.Core.Bool.{true};
 ghost use mathlib.Core.Path.{_≡_};
 ghost use Prim.Native.Nat.{_<_, _≤_};
 ghost use lib.ListN.{getD, set};
-ghost use Rattle.banking.specs.Banks.{Inside};
-ghost use Rattle.mapper.specs.Mappers.{fitRegisters};
-ghost use Rattle.windows.specs.Windows.{maskOf, unmapped, bytesAt, halvesAt, asks, Small, byWay, romAt, ramAt, windowsBy, Stands, askOf};
+ghost use Rattle.banking.specs.Banks.{Inside, romPlace};
+ghost use Rattle.windows.specs.Windows.{maskOf, unmapped, bytesAt, halvesAt, asks, Small, byWay, ramAt, windowsBy, Stands, askOf};
 ghost use Rattle.windows.specs.Through.{placeIn, ramSeen, seenOf, putBy, areaBy, putOf, areaAfter};
 use banking::RamAt;
 use cartridge::Cartridge;
@@ -59,7 +57,7 @@ pub enum Put {
     Ask,
 }
 
-fn not_mapped() -> RamWindow
+pub fn not_mapped() -> RamWindow
     ensures { λ r. ⌜ r ≡ unmapped ⌝ }
 {
     RamWindow {
@@ -76,7 +74,7 @@ fn mask_of(size: usize) -> u32
     if size == 0x800 { 0x7FF } else { 0x1FFF }
 }
 
-fn bytes_at(place: RamAt, size: usize) -> RamWindow
+pub fn bytes_at(place: RamAt, size: usize) -> RamWindow
     requires { ⌜ Inside place 0x20200 ⌝ }
     ensures { λ r. ⌜ r ≡ bytesAt place size ⌝ }
 {
@@ -90,7 +88,7 @@ fn bytes_at(place: RamAt, size: usize) -> RamWindow
     }
 }
 
-fn halves_at(m: Mbc2, size: usize) -> RamWindow
+pub fn halves_at(m: Mbc2, size: usize) -> RamWindow
     requires { ⌜ size ≤ 0x20000 ⌝ }
     ensures { λ r. ⌜ r ≡ halvesAt m size ⌝ }
 {
@@ -105,7 +103,7 @@ fn halves_at(m: Mbc2, size: usize) -> RamWindow
 }
 
 // A clock register is no byte of the area.
-fn asks(m: Mbc3) -> RamWindow
+pub fn asks(m: Mbc3) -> RamWindow
     ensures { λ r. ⌜ r ≡ asks m ⌝ }
 {
     if timer::on_clock(m) {
@@ -136,25 +134,24 @@ fn ram_at(mapper: Mapper, size: usize) -> RamWindow
     by_way(window::way_of(mapper, size, 0xA000), size)
 }
 
-// The place in the padded image that a window shows first.
-fn rom_at(banks: u16, mapper: Mapper, addr: u16) -> u32
+// The place in the padded image that a window shows first, by its bank.
+pub fn rom_at(banks: u16, bank: u16, addr: u16) -> u32
     requires { ⌜ 0 < banks ⌝ }
     requires { ⌜ banks ≤ 512 ⌝ }
-    requires { ⌜ fitRegisters mapper ≡ true ⌝ }
-    ensures { λ r. ⌜ r ≡ romAt banks mapper addr ⌝ }
+    ensures { λ r. ⌜ r ≡ romPlace banks bank addr ⌝ }
 {
-    banking::rom_place(banks, mapper.bank_at(addr), addr) as u32
+    banking::rom_place(banks, bank, addr) as u32
 }
 
 // The windows as they stand, by all of a fit cartridge that moves them.
-pub fn standing(banks: u16, size: usize, mapper: Mapper) -> Windows
+fn standing(banks: u16, size: usize, mapper: Mapper) -> Windows
     requires { ⌜ Stands banks size mapper ⌝ }
     ensures { λ r. ⌜ r ≡ windowsBy banks size mapper ⌝ }
 {
     let part = ram_at(mapper, size);
     Windows {
-        rom0: rom_at(banks, mapper, 0),
-        romx: rom_at(banks, mapper, 0x4000),
+        rom0: rom_at(banks, mapper.bank_at(0), 0),
+        romx: rom_at(banks, mapper.bank_at(0x4000), 0x4000),
         ram: part.ram,
         mask: part.mask,
         how: part.how,

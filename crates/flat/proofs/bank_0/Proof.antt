@@ -6,8 +6,9 @@ use mathlib.Core.Path.{refl, ap, _∙_}
 use denote.Ref.{now}
 use Rattle.mapper.specs.Mappers.{fitRegisters, bank0}
 use Rattle.mapper.specs.declared.Mapper.the-variants.{Mbc1}
-use Rattle.flat.specs.Kinds.{mapperAt}
-use Rattle.flat.proofs.Laws.{of-kind, low-bank-0}
+use Rattle.states.specs.Reading.{mapperAt}
+use Rattle.states.proofs.Laws.{of-kind}
+use Rattle.flat.proofs.Laws.{low-bank-0}
 
 mbc1-in-requires : tie.Need-mbc1-in-requires
 mbc1-in-requires c κs = search needs

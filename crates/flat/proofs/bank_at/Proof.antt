@@ -4,7 +4,7 @@ use Rattle.flat.proofs.bank_at.Statement.{statement}
 use Rattle.flat.proofs.bank_at.Tie as tie
 use denote.Ref.{now}
 use Rattle.mapper.proofs.Laws.{low-bank, high-bank}
-use Rattle.flat.specs.Kinds.{mapperAt}
+use Rattle.states.specs.Reading.{mapperAt}
 
 bank-0-requires : tie.Need-bank-0-requires
 bank-0-requires c κs = search needs

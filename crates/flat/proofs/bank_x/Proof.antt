@@ -6,9 +6,8 @@ use mathlib.Core.Path.{refl, ap, _∙_}
 use denote.Ref.{now}
 use Rattle.mapper.specs.Mappers.{fitRegisters, bankX}
 use Rattle.mapper.specs.declared.Mapper.the-variants.{NoMapper, Mbc1, Mbc2, Mbc3, Mbc5}
-use Rattle.states.proofs.Laws.{past-last}
-use Rattle.flat.specs.Kinds.{mapperAt}
-use Rattle.flat.proofs.Laws.{of-kind, no-mapper-at}
+use Rattle.states.proofs.Laws.{past-last, of-kind, no-mapper-at}
+use Rattle.states.specs.Reading.{mapperAt}
 
 new-requires : tie.Need-new-requires
 new-requires c κs = search needs

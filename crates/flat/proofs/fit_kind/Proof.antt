@@ -11,9 +11,8 @@ use Rattle.mbc2.specs.Registers as mbc2
 use Rattle.mbc3.specs.Registers as mbc3
 use Rattle.mbc5.specs.Registers as mbc5
 use Rattle.mapper.specs.declared.Mapper.the-variants.{NoMapper, Mbc1, Mbc2, Mbc3, Mbc5}
-use Rattle.states.specs.Reading.{mbc1In, mbc2In, untimedIn, timedIn, mbc5In}
+use Rattle.states.specs.Reading.{mbc1In, mbc2In, untimedIn, timedIn, mbc5In, mapperAt}
 use Rattle.states.proofs.Laws.{past-last}
-use Rattle.flat.specs.Kinds.{mapperAt}
 use Rattle.flat.proofs.Laws.{kind-fits, unknown-unfit}
 
 fits-requires : tie.Need-fits-requires

@@ -10,8 +10,9 @@ use Rattle.bytes_le.specs.Little.{fieldAt}
 use Rattle.mapper.specs.Mappers.{areaOf}
 use Rattle.mapper.specs.declared.Mapper.{Mapper}
 use Rattle.mapper.specs.declared.Mapper.the-variants.{Mbc2}
-use Rattle.flat.specs.Kinds.{mapperAt}
-use Rattle.flat.proofs.Laws.{of-kind, area-of-size}
+use Rattle.states.specs.Reading.{mapperAt}
+use Rattle.states.proofs.Laws.{of-kind}
+use Rattle.flat.proofs.Laws.{area-of-size}
 
 read-u64-requires : tie.Need-read-u64-requires
 read-u64-requires c κs = search needs

@@ -10,9 +10,9 @@ use Rattle.window.specs.Window as window
 use Rattle.window.specs.Window.{loaded}
 use Rattle.window.specs.declared.Way.the-variants.{Bytes}
 use Rattle.window.proofs.Laws.{lent-within}
-use Rattle.states.proofs.Laws.{past-last}
-use Rattle.flat.specs.Kinds.{mapperAt}
-use Rattle.flat.proofs.Laws.{no-mapper-at, area-at, read-at}
+use Rattle.states.proofs.Laws.{past-last, no-mapper-at}
+use Rattle.states.specs.Reading.{mapperAt}
+use Rattle.flat.proofs.Laws.{area-at, read-at}
 
 read-u64-requires : tie.Need-read-u64-requires
 read-u64-requires c κs = search needs

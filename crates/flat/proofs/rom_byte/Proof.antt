@@ -10,7 +10,7 @@ use Rattle.bytes_le.specs.Little.{fieldAt}
 use Rattle.image.specs.Image.{byteAt}
 use Rattle.banking.specs.Banks.{romPlace}
 use Rattle.cartridge.proofs.Laws.{fit-registers, fit-banks}
-use Rattle.flat.specs.Kinds.{cartAt}
+use Rattle.states.specs.Reading.{cartAt}
 
 read-u16-requires : tie.Need-read-u16-requires
 read-u16-requires c κs = search needs

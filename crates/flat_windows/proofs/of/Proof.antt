@@ -21,22 +21,21 @@ read-u16-requires c κs = search needs
 read-u64-requires : tie.Need-read-u64-requires
 read-u64-requires c κs = search needs
 
-mapper-in-requires : tie.Need-mapper-in-requires
-mapper-in-requires c κs = search needs
-
 standing-requires : tie.Need-standing-requires
-standing-requires c κs = let d = c .before .before .before .before in
-    let t = d .before .before in
-    let a = t .before .before .before .before .before .args in
-    bytes-stand (now (a .s)) (t .before .before .before .read-u8 .ensures) (t .before .fit .ensures) (t .if1 .left)
-    (d .read-u16 .ensures) (c .before .before .read-u64 .ensures) (c .mapper-in .ensures)
+standing-requires c κs = let b = c .before .before .before in
+    let t = b .before .before in
+    let a = t .before .before .before .before .before .args in (
+      search needs,
+      bytes-stand (now (a .s)) (t .before .before .before .read-u8 .ensures) (t .before .fit .ensures) (t .if1 .left) (b .read-u16 .ensures)
+          (c .before .read-u64 .ensures),
+    )
 
 returns-2 : tie.Need-returns-2
-returns-2 c = let d = c .before .before .before .before .before in
-    let t = d .before .before in
+returns-2 c = let b = c .before .before .before .before in
+    let t = b .before .before in
     let a = t .before .before .before .before .before .args in
-    fit-asked (now (a .s)) (t .before .before .before .read-u8 .ensures) (t .before .fit .ensures) (t .if1 .left)
-    (d .read-u16 .ensures) (c .before .before .before .read-u64 .ensures) (c .before .mapper-in .ensures) (c .standing .ensures)
+    fit-asked (now (a .s)) (t .before .before .before .read-u8 .ensures) (t .before .fit .ensures) (t .if1 .left) (b .read-u16 .ensures)
+    (c .before .before .read-u64 .ensures) (c .standing .ensures)
 
 pub of-spec : {M : Type 1} → statement M
 of-spec =
@@ -47,6 +46,5 @@ of-spec =
     returns
     read-u16-requires
     read-u64-requires
-    mapper-in-requires
     standing-requires
     returns-2)

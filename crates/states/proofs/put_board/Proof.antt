@@ -1,4 +1,4 @@
--- `states::put_board` meets its contract: the fields in their order. Assumes nothing.
+-- `states::put_board` meets its contract: the fields in their order, on zeroes. Assumes nothing.
 use borrow.Author.Needs.{needs}
 use Rattle.states.proofs.put_board.Statement.{statement}
 use Rattle.states.proofs.put_board.Tie as tie
@@ -20,17 +20,14 @@ write-u64-requires c κs = search needs
 write-u64-requires-2 : tie.Need-write-u64-requires-2
 write-u64-requires-2 c κs = search needs
 
-same-length : tie.Need-same-length
-same-length c = search needs
-
 returns : tie.Need-returns
 unfolding stored
 returns c =
-    let w₅ = c .before .before in
-    let w₄ = w₅ .before .before .before .before in
-    let w₃ = w₄ .before .before .before .before in
-    let w₂ = w₃ .before .before .before .before in
-    let w₁ = w₂ .before .before .before .before in
+    let w₅ = c in
+    let w₄ = w₅ .before .before in
+    let w₃ = w₄ .before .before in
+    let w₂ = w₃ .before .before in
+    let w₁ = w₂ .before .before in
     put-on 8 24 _
     (put-on 8 16 _
     (put-on 2 8 _
@@ -48,5 +45,4 @@ put-board-spec =
     write-u16-requires
     write-u64-requires
     write-u64-requires-2
-    same-length
     returns)

@@ -1,51 +1,25 @@
--- `states::put_mbc3` meets its contract, by its timer. Assumes nothing.
+-- `states::put_mbc3` meets its contract: what was mounted, then its fields. Assumes nothing.
 use borrow.Author.Needs.{needs}
 use Rattle.states.proofs.put_mbc3.Statement.{statement}
 use Rattle.states.proofs.put_mbc3.Tie as tie
-use Rattle.states.proofs.Laws.{timed-stored, untimed-stored}
+use denote.Ref.{now}
+use Rattle.mapper.specs.declared.Mapper.the-variants as by
+use Rattle.states.proofs.Laws.{put-in}
 
-cast-put-registers : tie.Need-cast-put-registers
-cast-put-registers c = search needs
+mbc3-kind-requires : tie.Need-mbc3-kind-requires
+mbc3-kind-requires c κs = search needs
 
-put-registers-requires : tie.Need-put-registers-requires
-put-registers-requires c κs = search needs
+clear-requires : tie.Need-clear-requires
+clear-requires c κs = search needs
 
-put-clock-requires : tie.Need-put-clock-requires
-put-clock-requires c κs = search needs
-
-same-length : tie.Need-same-length
-same-length c = search needs
+fields-mbc3-requires : tie.Need-fields-mbc3-requires
+fields-mbc3-requires c κs = search needs
 
 returns : tie.Need-returns
 returns c =
-    let w = c .before .before .before .before .before .before in
-    timed-stored (w .before .before .before .before .before .before .args .m) _ (w .before .before .before .before .if1 .taken)
-    (w .put-registers .ensures) (c .before .before .put-clock .ensures)
-
-cast-put-registers-2 : tie.Need-cast-put-registers-2
-cast-put-registers-2 c = search needs
-
-put-registers-requires-2 : tie.Need-put-registers-requires-2
-put-registers-requires-2 c κs = search needs
-
-same-length-2 : tie.Need-same-length-2
-same-length-2 c = search needs
-
-returns-2 : tie.Need-returns-2
-returns-2 c =
-    let d = c .before .before .before .before .before in
-    untimed-stored (d .before .before .args .m) _ (d .if1 .left) (c .before .before .put-registers2 .ensures)
+    let d = c .before .before .before in
+    let a = d .before .before .args in
+    put-in (now (a .s)) (by.Mbc3 (a .m)) (d .mbc3-kind .ensures) (c .before .before .clear .ensures) (c .fields-mbc3 .ensures)
 
 pub put-mbc3-spec : {M : Type 1} → statement M
-put-mbc3-spec =
-    tie.close
-    (tie.spec
-    cast-put-registers
-    put-registers-requires
-    put-clock-requires
-    same-length
-    returns
-    cast-put-registers-2
-    put-registers-requires-2
-    same-length-2
-    returns-2)
+put-mbc3-spec = tie.close (tie.spec mbc3-kind-requires clear-requires fields-mbc3-requires returns)

@@ -1,14 +1,13 @@
--- `flat::mapper_in` meets its contract: kind by kind. Assumes nothing.
+-- `states::mapper_in` meets its contract: kind by kind. Assumes nothing.
 use borrow.Author.Needs.{needs}
-use Rattle.flat.proofs.mapper_in.Statement.{statement}
-use Rattle.flat.proofs.mapper_in.Tie as tie
+use Rattle.states.proofs.mapper_in.Statement.{statement}
+use Rattle.states.proofs.mapper_in.Tie as tie
 use mathlib.Core.Path.{refl, ap, _∙_}
 use denote.Ref.{now}
 use Rattle.mapper.specs.declared.Mapper.{Mapper}
 use Rattle.mapper.specs.declared.Mapper.the-variants.{NoMapper, Mbc1, Mbc2, Mbc3, Mbc5}
-use Rattle.states.proofs.Laws.{past-last}
-use Rattle.flat.specs.Kinds.{mapperAt}
-use Rattle.flat.proofs.Laws.{of-kind, no-mapper-at}
+use Rattle.states.specs.Reading.{mapperAt}
+use Rattle.states.proofs.Laws.{past-last, of-kind, no-mapper-at}
 
 new-requires : tie.Need-new-requires
 new-requires c κs = search needs
