@@ -59,14 +59,14 @@ player-test: x86-64 player-library
 here-test:
 	@tools/x86-64 native || ! tools/library-here check || $(MAKE) --no-print-directory HERE=yes player-test
 
-# The C test and the tests of lengths under valgrind: minutes. It runs on no emulator.
+# The C test, and the tests of lengths and of drawn states, under valgrind: a minute. It runs on no emulator.
 valgrind: x86-64 player-library
 	@tools/x86-64 native || { echo "valgrind does not run on an emulator: on this machine, $$(uname -m), 'make valgrind HERE=yes'."; exit 1; }
 	@command -v valgrind >/dev/null 2>&1 || { echo "valgrind is missing: package valgrind."; exit 1; }
 	@mkdir -p "$(PLAYER)/c"
 	@tools/x86-64 cc -std=c11 -O1 -g -Iinclude player/c/test.c "$(LIBRARY)/libplayer.a" -o "$(PLAYER)/c/test-valgrind"
 	@valgrind --quiet --error-exitcode=1 --leak-check=full "$(PLAYER)/c/test-valgrind"
-	@export "$$(tools/x86-64 runner)=valgrind --quiet --error-exitcode=1"; $(CARGO) test --quiet --offline --test lengths
+	@export "$$(tools/x86-64 runner)=valgrind --quiet --error-exitcode=1"; $(CARGO) test --quiet --offline --test lengths --test random
 
 # Times and instruction counts; with ORIGINAL=folder of mizu-core 1.3.0's source beside it too. player/bench says what is measured.
 bench: x86-64 player-library
