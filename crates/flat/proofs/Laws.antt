@@ -2,10 +2,9 @@
 use mathlib.Core.Bool.{Bool, true, false, not}
 use mathlib.Core.List.{List}
 use mathlib.Core.Path.{_≡_, refl, sym, ap, _∙_}
-use Prim.Native.Nat.{ℕ, zero, suc, _+_, _*_, _≤_}
-use native.Mathlib.Omega.{arith}
+use Prim.Native.Nat.{ℕ, _+_, _*_, _≤_}
 use lib.Dec.{eqb, ltb, leb}
-use lib.ListN.{length, List·getD-eq-default}
+use lib.ListN.{length}
 use borrow.Author.Tests.{le-ltb}
 use Rattle.facts.specs.Choice.{pick, both}
 use Rattle.facts.specs.Listed.{oneOf}
@@ -19,13 +18,12 @@ use Rattle.types.specs.Types.{beyondOf}
 use Rattle.types.specs.declared.Kind.{Kind}
 use Rattle.clock_registers.specs.Fit.{fitRegisters}
 use Rattle.clock.specs.Fit.{fitClock}
-use Rattle.no_mapper.specs.Registers as none
 use Rattle.mbc3.specs.Registers as mbc3
 use Rattle.mbc3.specs.declared.Mbc3 as mbc3-state
 use Rattle.mapper.specs.Mappers as mapper
 use Rattle.mapper.specs.Mappers.{kindOf, multicartBanks, holds, areaOf, bank0}
 use Rattle.mapper.specs.declared.Mapper.{Mapper}
-use Rattle.mapper.specs.declared.Mapper.the-variants.{NoMapper, Mbc3}
+use Rattle.mapper.specs.declared.Mapper.the-variants.{Mbc3}
 use Rattle.window.specs.Window as window
 use Rattle.window.specs.declared.Way.the-variants.{Bytes, Timer}
 use Rattle.window.proofs.Laws.{lent-within}
@@ -45,35 +43,22 @@ use Rattle.state_fields.specs.Fields.{areFlags}
 use Rattle.state_fields.specs.ClockFields.{registersIn, clockIn}
 use Rattle.states.specs.Reading.{flagsOf, untimedIn, timedIn, mapperAt, cartAt, isState, decodeOf}
 use Rattle.states.specs.OnState.{onState}
-use Rattle.states.specs.declared.Decoded.{Decoded}
 use Rattle.states.specs.declared.Decoded.the-variants.{To, NoState}
-use Rattle.states.proofs.Laws.{of-kind, decoded-at}
+use Rattle.states.proofs.Laws.{every-kind, of-kind, decoded-at}
 use Rattle.flat.specs.Kinds.{fitAt, fitKind}
 
 -- ---- the state, by its kind
 
 -- only an MBC1 moves the low window, only an MBC2 has more than the header's RAM
 pub low-bank-0 : (s : List ℕ) (k : ℕ) → (k ≡ 1 → ⊥) → (k ≡ 2 → ⊥) → 0 ≡ bank0 (mapperAt s k)
-unfolding mapperAt
-low-bank-0 s zero a b = refl
-low-bank-0 s (suc zero) a b = absurd (a refl)
-low-bank-0 s (suc (suc zero)) a b = absurd (b refl)
-low-bank-0 s (suc (suc (suc zero))) a b = refl
-low-bank-0 s (suc (suc (suc (suc zero)))) a b = refl
-low-bank-0 s (suc (suc (suc (suc (suc zero))))) a b = refl
-low-bank-0 s (suc (suc (suc (suc (suc (suc zero)))))) a b = refl
-low-bank-0 s (suc (suc (suc (suc (suc (suc (suc k))))))) a b = refl
+low-bank-0 s =
+    every-kind s (λ (k : ℕ) (m : Mapper). (k ≡ 1 → ⊥) → (k ≡ 2 → ⊥) → 0 ≡ bank0 m) (λ a b. refl) (λ a b. absurd (a refl))
+    (λ a b. absurd (b refl)) (λ a b. refl) (λ a b. refl) (λ a b. refl) (λ a b. refl) (λ k a b. refl)
 
 pub area-of-size : (s : List ℕ) (k size : ℕ) → (k ≡ 3 → ⊥) → size ≡ areaOf (mapperAt s k) size
-unfolding mapperAt
-area-of-size s zero size a = refl
-area-of-size s (suc zero) size a = refl
-area-of-size s (suc (suc zero)) size a = refl
-area-of-size s (suc (suc (suc zero))) size a = absurd (a refl)
-area-of-size s (suc (suc (suc (suc zero)))) size a = refl
-area-of-size s (suc (suc (suc (suc (suc zero))))) size a = refl
-area-of-size s (suc (suc (suc (suc (suc (suc zero)))))) size a = refl
-area-of-size s (suc (suc (suc (suc (suc (suc (suc k))))))) size a = refl
+area-of-size s k size =
+    every-kind s (λ (k : ℕ) (m : Mapper). (k ≡ 3 → ⊥) → size ≡ areaOf m size) (λ a. refl) (λ a. refl) (λ a. refl)
+    (λ a. absurd (a refl)) (λ a. refl) (λ a. refl) (λ a. refl) (λ k a. refl) k
 
 -- ---- fitness
 

@@ -3,7 +3,7 @@ use mathlib.Core.Bool.{Bool, true, false, not}
 use mathlib.Core.List.{List}
 use mathlib.Core.Path.{_≡_, sym, ap, _∙_}
 use Prim.Native.Nat.{ℕ, _≤_}
-use Rattle.facts.specs.Choice.{pick, both}
+use Rattle.facts.specs.Choice.{pick}
 use Rattle.banking.specs.Banks.{Inside}
 use Rattle.banking.specs.declared.RamAt.{RamAt}
 use Rattle.bytes_le.specs.Little.{fieldAt}
@@ -19,7 +19,7 @@ use Rattle.states.specs.OnState.{onState}
 use Rattle.flat.specs.Kinds.{fitAt}
 use Rattle.states.proofs.Laws.{of-kind}
 use Rattle.flat.proofs.Laws.{selected-bytes, unfit-call, fit-cart, fit-call}
-use Rattle.windows.specs.Windows.{window, unmapped, bytesAt, asks, byWay, ramAt, windowsBy, windowsOf, Stands, askOf}
+use Rattle.windows.specs.Windows.{bytesAt, byWay, ramAt, windowsBy, windowsOf, Stands, askOf}
 use Rattle.windows.specs.declared.RamWindow.{RamWindow}
 use Rattle.windows.specs.declared.Windows.{Windows}
 use Rattle.windows.specs.declared.Asked.the-variants.{To, Unfit}
@@ -34,10 +34,6 @@ module _ (m : mbc3-state.Mbc3) (size : ℕ) (e : m .memory ≡ true) {place : Ra
 
   pub selected-shown : {r : RamWindow} → r ≡ bytesAt place size → r ≡ ramAt (Mbc3 m) size
   selected-shown = way-shown (Mbc3 m) size (selected-bytes m size 0xA000 e p)
-
-pub asks-nothing : (m : mbc3-state.Mbc3) → m .timer ≡ false → unmapped ≡ asks m
-asks-nothing m e =
-    ap (λ (t : Bool). pick (both t (both (m .enabled) (not (m .memory)))) (window 0 0 3) unmapped) (sym e)
 
 pub kind-shown : (s : List ℕ) (size : ℕ) {kind k : ℕ} {m : Mapper} {w : Way} {r : RamWindow} → kind ≡ k → m ≡ mapperAt s k
     → w ≡ wayOf m size 0xA000 → r ≡ byWay w size

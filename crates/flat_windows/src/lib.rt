@@ -1,5 +1,4 @@
 // The windows of a cartridge straight from the bytes of its state. No mapper is built: each kind is asked for what moves its windows.
-ghost use mathlib.Core.Bool.{false};
 ghost use mathlib.Core.Path.{_≡_};
 ghost use Prim.Native.Nat.{_≤_};
 ghost use lib.ListN.{length};
@@ -19,20 +18,8 @@ use windows::Asked;
 use windows::RamWindow;
 use windows::Windows;
 
-// Without a timer nothing stands where RAM is not selected. It is asked apart from the timed kind, so that no clock is built.
-fn untimed_at(m: Mbc3, size: usize) -> RamWindow
-    requires { ⌜ size ≤ 0x20000 ⌝ }
-    requires { ⌜ m .timer ≡ false ⌝ }
-    ensures { λ r. ⌜ r ≡ ramAt (by.Mbc3 m) size ⌝ }
-{
-    if m.memory {
-        return windows::bytes_at(m.ram_at(size, 0xA000), size);
-    }
-    windows::not_mapped()
-}
-
 // The RAM bank, or what stands where RAM is not selected.
-fn timed_at(m: Mbc3, size: usize) -> RamWindow
+fn mbc3_at(m: Mbc3, size: usize) -> RamWindow
     requires { ⌜ size ≤ 0x20000 ⌝ }
     ensures { λ r. ⌜ r ≡ ramAt (by.Mbc3 m) size ⌝ }
 {
@@ -52,8 +39,8 @@ fn ram_at(s: &[u8], kind: u8, size: usize) -> RamWindow
         1 => windows::bytes_at(mbc1_in(s, false).ram_at(size, 0xA000), size),
         2 => windows::bytes_at(mbc1_in(s, true).ram_at(size, 0xA000), size),
         3 => windows::halves_at(mbc2_in(s), size),
-        4 => untimed_at(untimed_in(s), size),
-        5 => timed_at(timed_in(s), size),
+        4 => mbc3_at(untimed_in(s), size),
+        5 => mbc3_at(timed_in(s), size),
         6 => windows::bytes_at(mbc5_in(s).ram_at(size, 0xA000), size),
         _ => windows::bytes_at(NoMapper::new().ram_at(size, 0xA000), size),
     }

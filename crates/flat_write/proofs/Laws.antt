@@ -1,12 +1,11 @@
 -- A write to a state's bytes, and clocks that pass on them, are the bus's on what the bytes are. Assumes nothing.
 use mathlib.Core.Bool.{Bool, true, false, not}
 use mathlib.Core.List.{List}
-use mathlib.Core.Path.{_≡_, refl, sym, ap, _∙_}
-use Prim.Native.Nat.{ℕ, zero, suc, _<_, _≤_}
+use mathlib.Core.Path.{_≡_, refl, ap, _∙_}
+use Prim.Native.Nat.{ℕ, _<_, _≤_}
 use native.Mathlib.Omega.{arith}
-use lib.Dec.{eqb, leb}
+use lib.Dec.{eqb}
 use lib.ListN.{length}
-use Rattle.facts.specs.Choice.{both}
 use Rattle.bytes_le.specs.Little.{fieldAt}
 use Rattle.clock.specs.declared.AdvanceRefusal.the-variants as advance
 use Rattle.mbc3.specs.Registers as mbc3
@@ -29,7 +28,7 @@ use Rattle.bus.proofs.Laws.{write-answered, area-answered, write-area, unfit-an
 use Rattle.states.specs.Layout.{encodeOf}
 use Rattle.states.specs.Reading.{cartIn, mapperAt, cartAt}
 use Rattle.flat.specs.Kinds.{fitAt}
-use Rattle.states.proofs.Laws.{of-kind}
+use Rattle.states.proofs.Laws.{every-kind, of-kind}
 use Rattle.flat.proofs.Laws.{area-at, unfit-call, fit-cart, fit-call, fit-judged}
 use Rattle.flat_write.specs.Calls.{wroteBy, writeState, wroteOf, stateWritten, areaWritten, passedBy, advanceState, passedOf, stateAdvanced}
 use Rattle.flat_write.specs.declared.Wrote.{Wrote}
@@ -40,27 +39,16 @@ use Rattle.flat_write.specs.declared.Passed.the-variants as passed
 -- ---- a write to the registers, by the kind
 
 -- kinds 4 and 5 are the MBC3's
-pub selection-at : (s : List ℕ) (k addr byte : ℕ) → 4 ≤ k → k < 6
-    → both (both (leb 0x4000 addr) (leb addr 0x5FFF)) (not (mbc3.selectable byte)) ≡ mapper.badSelection (mapperAt s k) addr byte
-unfolding mapperAt
-selection-at s zero addr byte l h = absurd (omega arith)
-selection-at s (suc zero) addr byte l h = absurd (omega arith)
-selection-at s (suc (suc zero)) addr byte l h = absurd (omega arith)
-selection-at s (suc (suc (suc zero))) addr byte l h = absurd (omega arith)
-selection-at s (suc (suc (suc (suc zero)))) addr byte l h = refl
-selection-at s (suc (suc (suc (suc (suc zero))))) addr byte l h = refl
-selection-at s (suc (suc (suc (suc (suc (suc k)))))) addr byte l h = absurd (omega arith)
+pub selection-at : (s : List ℕ) (k addr byte : ℕ) → 4 ≤ k → k < 6 → mbc3.badSelection addr byte ≡ mapper.badSelection (mapperAt s k) addr byte
+selection-at s k addr byte =
+    every-kind s (λ (k : ℕ) (m : Mapper). 4 ≤ k → k < 6 → mbc3.badSelection addr byte ≡ mapper.badSelection m addr byte)
+    (λ l h. absurd (omega arith)) (λ l h. absurd (omega arith)) (λ l h. absurd (omega arith)) (λ l h. absurd (omega arith))
+    (λ l h. refl) (λ l h. refl) (λ l h. absurd (omega arith)) (λ k l h. absurd (omega arith)) k
 
 pub no-selection : (s : List ℕ) (k addr byte : ℕ) → (4 ≤ k → 6 ≤ k) → false ≡ mapper.badSelection (mapperAt s k) addr byte
-unfolding mapperAt
-no-selection s zero addr byte h = refl
-no-selection s (suc zero) addr byte h = refl
-no-selection s (suc (suc zero)) addr byte h = refl
-no-selection s (suc (suc (suc zero))) addr byte h = refl
-no-selection s (suc (suc (suc (suc zero)))) addr byte h = absurd (omega (arith, h (omega arith)))
-no-selection s (suc (suc (suc (suc (suc zero))))) addr byte h = absurd (omega (arith, h (omega arith)))
-no-selection s (suc (suc (suc (suc (suc (suc zero)))))) addr byte h = refl
-no-selection s (suc (suc (suc (suc (suc (suc (suc k))))))) addr byte h = refl
+no-selection s k addr byte =
+    every-kind s (λ (k : ℕ) (m : Mapper). (4 ≤ k → 6 ≤ k) → false ≡ mapper.badSelection m addr byte) (λ h. refl) (λ h. refl) (λ h. refl)
+    (λ h. refl) (λ h. absurd (omega (arith, h (omega arith)))) (λ h. absurd (omega (arith, h (omega arith)))) (λ h. refl) (λ k h. refl) k
 
 pub register-at : (s : List ℕ) (addr byte : ℕ) {kind k : ℕ} {m n : Mapper} {t : List ℕ} → kind ≡ k → m ≡ mapperAt s k
     → n ≡ mapper.written m addr byte → t ≡ encodeOf (cartIn s n)

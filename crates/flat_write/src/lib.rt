@@ -14,7 +14,6 @@ ghost use Rattle.flat_write.specs.Calls.{wroteBy, writeState, wroteOf, s
 use access::BusRefusal;
 use access::Verdict;
 use clock::AdvanceRefusal;
-use facts::both;
 use mapper::Mapper;
 use states::mbc1_in;
 use states::mbc2_in;
@@ -37,7 +36,7 @@ fn bad_selection(kind: u8, addr: u16, byte: u8) -> bool
     ensures { λ r. ⌜ ((s : List ℕ) → r ≡ mapper.badSelection (mapperAt s kind) addr byte) ⌝ }
 {
     match kind {
-        4 | 5 => both(both(0x4000 <= addr, addr <= 0x5FFF), !mbc3::selects(byte)),
+        4 | 5 => mbc3::bad_selection(addr, byte),
         _ => false,
     }
 }

@@ -2,7 +2,7 @@
 use mathlib.Core.Bool.{Bool, true, false, not}
 use mathlib.Core.List.{[], _∷_}
 use Prim.Native.Nat.{ℕ, _+_}
-use lib.Dec.{eqb, ltb, leb}
+use lib.Dec.{eqb, ltb}
 use Rattle.facts.specs.Choice.{pick, both, either}
 use Rattle.facts.specs.Refusals.{no, firstNo}
 use Rattle.clock.specs.declared.AdvanceRefusal.the-variants.{Unfit, Late}
@@ -88,7 +88,7 @@ abbrev pub badSelection : Mapper → ℕ → ℕ → Bool
 badSelection (NoMapper m) addr byte = false
 badSelection (Mbc1 m) addr byte = false
 badSelection (Mbc2 m) addr byte = false
-badSelection (Mbc3 m) addr byte = both (both (leb 0x4000 addr) (leb addr 0x5FFF)) (not (mbc3.selectable byte))
+badSelection (Mbc3 m) addr byte = mbc3.badSelection addr byte
 badSelection (Mbc5 m) addr byte = false
 
 -- "clock time would pass 2^64 - 1 seconds"; "Without a timer an advance is accepted and changes nothing."

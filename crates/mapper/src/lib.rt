@@ -188,7 +188,7 @@ impl Mapper {
             Mapper::NoMapper(_) => false,
             Mapper::Mbc1(_) => false,
             Mapper::Mbc2(_) => false,
-            Mapper::Mbc3(_) => both(both(0x4000 <= addr, addr <= 0x5FFF), !mbc3::selects(byte)),
+            Mapper::Mbc3(_) => mbc3::bad_selection(addr, byte),
             Mapper::Mbc5(_) => false,
         }
     }

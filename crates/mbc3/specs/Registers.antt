@@ -40,6 +40,10 @@ forClock byte = both (leb 8 (byte % 16)) (leb (byte % 16) 0xC)
 unfoldable pub selectable : ℕ → Bool
 selectable byte = either (forRam byte) (forClock byte)
 
+-- number 16, of a write to 0x4000..=0x5FFF
+abbrev pub badSelection : ℕ → ℕ → Bool
+badSelection addr byte = both (both (leb 0x4000 addr) (leb addr 0x5FFF)) (not (selectable byte))
+
 unfoldable pub selected : Mbc3 → ℕ → Mbc3
 selected m byte =
     pick (forRam byte) (mbc3 (m .timer) (m .enabled) (m .bank) true (byte % 16) (m .register) (m .clock))

@@ -1,6 +1,6 @@
 // MBC3: up to 256 ROM banks, four RAM banks, and on some boards a clock, which the crate timer reads, writes and advances.
 ghost use mathlib.Core.Path.{_≡_};
-ghost use Rattle.mbc3.specs.Registers.{start, selectable, selected, latched, written, bank0, bankX, ramAt, fitRegisters};
+ghost use Rattle.mbc3.specs.Registers.{start, selectable, badSelection, selected, latched, written, bank0, bankX, ramAt, fitRegisters};
 use banking::RamAt;
 use clock::Clock;
 use facts::both;
@@ -26,6 +26,14 @@ pub fn selects(byte: u8) -> bool
         8..=0xC => true,
         _ => false,
     }
+}
+
+// Whether a write selects what there is not: number 16.
+pub fn bad_selection(addr: u16, byte: u8) -> bool
+    ensures { λ r. ⌜ r ≡ badSelection addr byte ⌝ }
+{
+    let in_window = both(0x4000 <= addr, addr <= 0x5FFF);
+    both(in_window, !selects(byte))
 }
 
 impl Mbc3 {

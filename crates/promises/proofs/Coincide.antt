@@ -236,10 +236,10 @@ pub mbc2-coincide : (m : two.Mbc2) (half : List ℕ) (addr byte : ℕ)
 mbc2-coincide m half addr byte = (any-two _, any-two _, any-two _, any-two _, any-two _, any-two _, any-two _)
 
 pub mbc3-coincide : (m : three.Mbc3) (timer : Bool) (wall addr byte size : ℕ)
-    → Coincide (mbc3.selectable byte) × Coincide (mbc3.start timer wall) × Coincide (mbc3.written m addr byte)
-    × Coincide (mbc3.bank0 m) × Coincide (mbc3.bankX m) × Coincide (mbc3.ramAt m size addr) × Coincide (mbc3.fitRegisters m)
+    → Coincide (mbc3.selectable byte) × Coincide (mbc3.badSelection addr byte) × Coincide (mbc3.start timer wall)
+    × Coincide (mbc3.written m addr byte) × Coincide (mbc3.bank0 m) × Coincide (mbc3.bankX m) × Coincide (mbc3.ramAt m size addr) × Coincide (mbc3.fitRegisters m)
 mbc3-coincide m timer wall addr byte size =
-    (any-two _, any-two _, any-two _, any-two _, any-two _, any-two _, any-two _)
+    (any-two _, any-two _, any-two _, any-two _, any-two _, any-two _, any-two _, any-two _)
 
 pub timer-coincide : (m : three.Mbc3) (byte n : ℕ)
     → Coincide (windowRead m) × Coincide (windowWritten m byte) × Coincide (timer-advance.advanceOf m n)

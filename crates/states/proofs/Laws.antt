@@ -2,7 +2,7 @@
 use mathlib.Core.Bool.{Bool, true, false}
 use mathlib.Core.List.{List, [], _∷_}
 use mathlib.Core.Path.{_≡_, refl, sym, ap, _∙_}
-use Prim.Native.Nat.{ℕ, suc, _≤_}
+use Prim.Native.Nat.{ℕ, zero, suc, _≤_}
 use native.Mathlib.Omega.{arith}
 use lib.Dec.{ltb}
 use lib.ListN.{replicate, List·getD-eq-default}
@@ -16,12 +16,12 @@ use Rattle.mbc3.specs.Registers as mbc3
 use Rattle.mbc3.specs.declared.Mbc3 as mbc3-state
 use Rattle.mbc5.specs.Registers as mbc5
 use Rattle.mapper.specs.declared.Mapper.{Mapper}
-use Rattle.mapper.specs.declared.Mapper.the-variants.{NoMapper, Mbc3}
+use Rattle.mapper.specs.declared.Mapper.the-variants.{NoMapper, Mbc1, Mbc2, Mbc3, Mbc5}
 use Rattle.state_fields.specs.Fields.{stored, flagAt, isFlag, areFlags}
 use Rattle.state_fields.specs.ClockFields.{clock}
 use Rattle.state_fields.proofs.Laws.{store-on, flags-one, flags-both}
 use Rattle.states.specs.Layout.{kindOf, boardOf, registers, mbc3Fields, mapper, cartFrom, encodeOf}
-use Rattle.states.specs.Reading.{flagLists, flagsOf, mbc3In, cleared, cartIn, mappersIn, mapperAt, cartAt, isState, decodeOf}
+use Rattle.states.specs.Reading.{flagLists, flagsOf, mbc1In, mbc2In, mbc3In, untimedIn, timedIn, mbc5In, cleared, cartIn, mappersIn, mapperAt, cartAt, isState, decodeOf}
 use Rattle.states.specs.declared.Decoded.{Decoded}
 use Rattle.states.specs.declared.Decoded.the-variants.{To, NoState}
 
@@ -90,6 +90,21 @@ flags-unknown s kind h = ap (areFlags s) (sym (List·getD-eq-default flagLists [
 pub no-mapper-at : (s : List ℕ) (kind : ℕ) → 7 ≤ kind → NoMapper none.start ≡ mapperAt s kind
 unfolding mapperAt
 no-mapper-at s kind h = sym (List·getD-eq-default (mappersIn s) (NoMapper none.start) h)
+
+-- what holds of each of the seven, and of none beyond them, holds at every kind
+pub every-kind : (s : List ℕ) (P : ℕ → Mapper → Type 0) → P 0 (NoMapper none.start) → P 1 (Mbc1 (mbc1In s false))
+    → P 2 (Mbc1 (mbc1In s true)) → P 3 (Mbc2 (mbc2In s)) → P 4 (Mbc3 (untimedIn s)) → P 5 (Mbc3 (timedIn s)) → P 6 (Mbc5 (mbc5In s))
+    → ((k : ℕ) → P (suc (suc (suc (suc (suc (suc (suc k))))))) (NoMapper none.start))
+    → (k : ℕ) → P k (mapperAt s k)
+unfolding mapperAt
+every-kind s P p0 p1 p2 p3 p4 p5 p6 p7 zero = p0
+every-kind s P p0 p1 p2 p3 p4 p5 p6 p7 (suc zero) = p1
+every-kind s P p0 p1 p2 p3 p4 p5 p6 p7 (suc (suc zero)) = p2
+every-kind s P p0 p1 p2 p3 p4 p5 p6 p7 (suc (suc (suc zero))) = p3
+every-kind s P p0 p1 p2 p3 p4 p5 p6 p7 (suc (suc (suc (suc zero)))) = p4
+every-kind s P p0 p1 p2 p3 p4 p5 p6 p7 (suc (suc (suc (suc (suc zero))))) = p5
+every-kind s P p0 p1 p2 p3 p4 p5 p6 p7 (suc (suc (suc (suc (suc (suc zero)))))) = p6
+every-kind s P p0 p1 p2 p3 p4 p5 p6 p7 (suc (suc (suc (suc (suc (suc (suc k))))))) = p7 k
 
 -- what holds of the mapper of a kind holds of the bytes of that kind
 pub of-kind : {A : Type 0} (f : Mapper → A) (s : List ℕ) {kind k : ℕ} {m : Mapper} {r : A} → kind ≡ k → m ≡ mapperAt s k → r ≡ f m

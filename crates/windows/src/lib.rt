@@ -57,7 +57,7 @@ pub enum Put {
     Ask,
 }
 
-pub fn not_mapped() -> RamWindow
+fn not_mapped() -> RamWindow
     ensures { λ r. ⌜ r ≡ unmapped ⌝ }
 {
     RamWindow {

@@ -52,14 +52,14 @@ halves-at-requires c κs = search needs
 untimed-in-requires : tie.Need-untimed-in-requires
 untimed-in-requires c κs = search needs
 
-untimed-at-requires : tie.Need-untimed-at-requires
-untimed-at-requires c κs = search needs
+mbc3-at-requires : tie.Need-mbc3-at-requires
+mbc3-at-requires c κs = search needs
 
 timed-in-requires : tie.Need-timed-in-requires
 timed-in-requires c κs = search needs
 
-timed-at-requires : tie.Need-timed-at-requires
-timed-at-requires c κs = search needs
+mbc3-at-requires-2 : tie.Need-mbc3-at-requires-2
+mbc3-at-requires-2 c κs = search needs
 
 mbc5-in-requires : tie.Need-mbc5-in-requires
 mbc5-in-requires c κs = search needs
@@ -107,12 +107,12 @@ returns-4 c = let a = c .before .before .before .before .args in
 returns-5 : tie.Need-returns-5
 unfolding mapperAt
 returns-5 c = let a = c .before .before .before .before .args in
-    of-kind (λ (m : Mapper). ramAt m (a .size)) (now (a .s)) (c .before .before .match .keys5) (ap Mbc3 (c .before .untimed-in .ensures)) (c .untimed-at .ensures)
+    of-kind (λ (m : Mapper). ramAt m (a .size)) (now (a .s)) (c .before .before .match .keys5) (ap Mbc3 (c .before .untimed-in .ensures)) (c .mbc3-at .ensures)
 
 returns-6 : tie.Need-returns-6
 unfolding mapperAt
 returns-6 c = let a = c .before .before .before .before .args in
-    of-kind (λ (m : Mapper). ramAt m (a .size)) (now (a .s)) (c .before .before .match .keys6) (ap Mbc3 (c .before .timed-in .ensures)) (c .timed-at .ensures)
+    of-kind (λ (m : Mapper). ramAt m (a .size)) (now (a .s)) (c .before .before .match .keys6) (ap Mbc3 (c .before .timed-in .ensures)) (c .mbc3-at2 .ensures)
 
 returns-7 : tie.Need-returns-7
 unfolding mapperAt
@@ -145,9 +145,9 @@ ram-at-spec =
     mbc2-in-requires
     halves-at-requires
     untimed-in-requires
-    untimed-at-requires
+    mbc3-at-requires
     timed-in-requires
-    timed-at-requires
+    mbc3-at-requires-2
     mbc5-in-requires
     ram-at-requires-4
     bytes-at-requires-4

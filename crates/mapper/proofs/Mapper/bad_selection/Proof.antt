@@ -17,14 +17,8 @@ enum-told-3 c = search needs
 enum-told-4 : tie.Need-enum-told-4
 enum-told-4 c = search needs
 
-both-requires : tie.Need-both-requires
-both-requires c κs = search needs
-
-selects-requires : tie.Need-selects-requires
-selects-requires c κs = search needs
-
-both-requires-2 : tie.Need-both-requires-2
-both-requires-2 c κs = search needs
+bad-selection-requires : tie.Need-bad-selection-requires
+bad-selection-requires c κs = search needs
 
 enum-told-5 : tie.Need-enum-told-5
 enum-told-5 c = search needs
@@ -40,10 +34,8 @@ returns-3 c = search needs
 
 returns-4 : tie.Need-returns-4
 returns-4 c =
-    let t = c .before .before in
-    let a = t .before .before .before .args in
-    let e = rw (t .both .ensures, c .before .selects .ensures) at (c .both2 .ensures) in
-    e ∙ ap (λ x. badSelection x (a .addr) (a .byte)) (sym (t .before .enum-told4 .given .1))
+    let a = c .before .before .before .args in
+    c .bad-selection .ensures ∙ ap (λ x. badSelection x (a .addr) (a .byte)) (sym (c .before .enum-told4 .given .1))
 
 returns-5 : tie.Need-returns-5
 returns-5 c = search needs
@@ -56,9 +48,7 @@ bad-selection-spec =
     enum-told-2
     enum-told-3
     enum-told-4
-    both-requires
-    selects-requires
-    both-requires-2
+    bad-selection-requires
     enum-told-5
     returns
     returns-2

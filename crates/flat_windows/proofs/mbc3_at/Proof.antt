@@ -1,7 +1,7 @@
--- `flat_windows::timed_at` meets its contract: RAM, or the clock is to be asked. Assumes nothing.
+-- `flat_windows::mbc3_at` meets its contract: RAM, or the clock is to be asked. Assumes nothing.
 use borrow.Author.Needs.{needs}
-use Rattle.flat_windows.proofs.timed_at.Statement.{statement}
-use Rattle.flat_windows.proofs.timed_at.Tie as tie
+use Rattle.flat_windows.proofs.mbc3_at.Statement.{statement}
+use Rattle.flat_windows.proofs.mbc3_at.Tie as tie
 use Rattle.mapper.specs.declared.Mapper.the-variants.{Mbc3}
 use Rattle.flat.proofs.Laws.{selected-way}
 use Rattle.windows.proofs.Laws.{way-shown}
@@ -25,5 +25,5 @@ returns-2 : tie.Need-returns-2
 returns-2 c = let a = c .before .before .args in
     way-shown (Mbc3 (a .m)) (a .size) (selected-way (a .m) (a .size) 0xA000 (c .before .if1 .left)) (c .asks .ensures)
 
-pub timed-at-spec : {M : Type 1} → statement M
-timed-at-spec = tie.close (tie.spec ram-at-requires bytes-at-requires returns asks-requires returns-2)
+pub mbc3-at-spec : {M : Type 1} → statement M
+mbc3-at-spec = tie.close (tie.spec ram-at-requires bytes-at-requires returns asks-requires returns-2)
