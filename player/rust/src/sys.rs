@@ -136,7 +136,7 @@ pub fn window_write(windows: &Windows, ram: &mut [u8], addr: u16, byte: u8) -> u
 }
 
 /// Four of the calls over bytes that others hold references to meanwhile. A cell is its byte in memory, and may be written through a
-/// shared reference; no other thread has one.
+/// shared reference; no other thread has one. Two slices of cells may overlap, but the calls that are lent two write to neither.
 pub mod cells {
     use super::{ffi, State, Windows};
     use std::cell::Cell;
