@@ -127,11 +127,29 @@ impl Way for Calls {
 
 struct WindowCalls(Calls, sys::Windows);
 
+// What the windows leave to the state is rare, and kept out of the loop: so a player would.
+impl WindowCalls {
+    #[cold]
+    #[inline(never)]
+    fn ask(&self, addr: u16) -> u8 {
+        sys::read(&self.0.state, &self.0.image, &self.0.ram, addr) as u8
+    }
+
+    #[cold]
+    #[inline(never)]
+    fn tell(&mut self, addr: u16, byte: u8) {
+        self.0.write(addr, byte);
+        if addr < 0x8000 {
+            sys::windows(&self.0.state, &mut self.1);
+        }
+    }
+}
+
 impl Way for WindowCalls {
     #[inline]
     fn read(&mut self, addr: u16) -> u8 {
         match sys::window_read(&self.1, &self.0.image, &self.0.ram, addr) {
-            sys::ASK => self.0.read(addr),
+            sys::ASK => self.ask(addr),
             seen => seen as u8,
         }
     }
@@ -139,10 +157,7 @@ impl Way for WindowCalls {
     #[inline]
     fn write(&mut self, addr: u16, byte: u8) {
         if sys::window_write(&self.1, &mut self.0.ram, addr, byte) == sys::ASK {
-            self.0.write(addr, byte);
-            if addr < 0x8000 {
-                sys::windows(&self.0.state, &mut self.1);
-            }
+            self.tell(addr, byte);
         }
     }
 }

@@ -1,8 +1,14 @@
--- A call by what its state is, its answer as a number, and the facts of an accepted header as numbers of 32 bits. Assumes nothing.
+-- A call by what its state is, its answer as a number, the facts of an accepted header as numbers of 32 bits, and the number that a ROM
+-- window has. Assumes nothing.
+use mathlib.Core.Bool.{Bool, true, false}
 use mathlib.Core.List.{List}
 use mathlib.Core.Path.{_≡_, refl, sym, ap, _∙_}
-use Prim.Native.Nat.{ℕ}
+use Prim.Native.Nat.{ℕ, _/_, _<_}
 use native.Mathlib.Omega.{arith}
+use lib.Dec.{ltb}
+use lib.ListN.{getD}
+use borrow.Author.Tests.{ltb-true, ltb-false}
+use Rattle.facts.specs.Choice.{pick}
 use Rattle.facts.proofs.ListLaws.{one-of-le}
 use Rattle.image.proofs.ImageLaws.{title-le}
 use Rattle.header.specs.Check.{factsOf, checkOf}
@@ -32,7 +38,9 @@ use Rattle.flat_write.specs.declared.Wrote.the-variants as wrote
 use Rattle.flat_write.specs.declared.Passed.{Passed}
 use Rattle.flat_write.specs.declared.Passed.the-variants as passed
 use Rattle.player.specs.Bus.{writeNumber, writeOf, advanceNumber, advanceOf}
+use Rattle.windows.specs.Through.{romStart}
 use Rattle.player.specs.Header.{Small}
+use Rattle.player.specs.Windows.{windowsIn}
 
 -- ---- the state
 
@@ -96,3 +104,15 @@ accepted-small s {d = d} e g =
       size = one-of-le 0x20000 (d .size) ramSizes refl (accepted-fits s d p .sized);
       title = omega (arith, ap (λ (x : Facts). x .title) (accepted-only s d p .1), title-le s);
     }
+
+-- ---- a ROM window by its number
+
+pub rom-started : (numbers : List ℕ) (addr : ℕ) → addr < 0x8000 → getD numbers (addr / 0x4000) 0 ≡ romStart (windowsIn numbers) addr
+rom-started numbers addr h = go (ltb addr 0x4000) refl
+  where
+    at : {i : ℕ} → addr / 0x4000 ≡ i → getD numbers (addr / 0x4000) 0 ≡ getD numbers i 0
+    at e = ap (λ (i : ℕ). getD numbers i 0) e
+
+    go : (b : Bool) → ltb addr 0x4000 ≡ b → getD numbers (addr / 0x4000) 0 ≡ pick b (getD numbers 0 0) (getD numbers 1 0)
+    go true e = let l = ltb-true addr 0x4000 e in at (omega arith)
+    go false e = let l = ltb-false addr 0x4000 e in at (omega arith)

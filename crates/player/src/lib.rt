@@ -1,8 +1,10 @@
 // What a player links: the calls of the cartridge over lent bytes, with numbers for answers. The cartridge is 64 bytes that the caller
 // keeps; no call asks anything of them. Each answers 0 or the number of the refusal, and a refused call has changed no lent byte.
 ghost use mathlib.Core.Path.{_≡_};
+ghost use Prim.Native.Nat.{_<_};
 ghost use lib.ListN.{length};
 ghost use Rattle.mount.specs.Mount as mounting;
+ghost use Rattle.windows.specs.Through.{romStart};
 ghost use Rattle.flat_write.specs.Calls.{stateWritten, areaWritten, stateAdvanced};
 ghost use Rattle.player.specs.Header.{kindNumber, hasTimer, hasRumble, Small, factsOf, headerOf, factsAfter};
 ghost use Rattle.player.specs.Bus.{mountOf, stateMounted, readNumber, readOf, writeOf, advanceOf};
@@ -299,11 +301,24 @@ fn windows_in(w: &[u32; 6]) -> Windows
     }
 }
 
-// What an address reads through windows: the byte, 0x10F outside, or 0x200 where the state must be asked.
+// The number that says where the ROM window of an address stands: by an index, which costs less than to go by cases.
+fn rom_start(windows: &[u32; 6], addr: u16) -> u32
+    requires { ⌜ addr < 0x8000 ⌝ }
+    ensures { λ r. ⌜ r ≡ romStart (windowsIn (now (windows .entry))) addr ⌝ }
+{
+    let i = (addr >> 14) as usize;
+    windows[i]
+}
+
+// What an address reads through windows: the byte, 0x10F outside, or 0x200 where the state must be asked. Most reads are of ROM, and
+// have no more to go by than their address.
 #[no_mangle]
 pub extern "C" fn imf_window_read(windows: &[u32; 6], image: &[u8], ram: &[u8], addr: u16) -> u32
     ensures { λ r. ⌜ r ≡ windowRead (now (windows .entry)) (now (image .entry)) (now (ram .entry)) addr ⌝ }
 {
+    if addr < 0x8000 {
+        return windows::rom_byte(image, rom_start(windows, addr), addr) as u32;
+    }
     match windows::read(windows_in(windows), image, ram, addr) {
         Seen::Byte(b) => b as u32,
         Seen::BadAddress => REFUSED + 15,

@@ -26,7 +26,7 @@ use Rattle.cartridge.proofs.Laws.{fit-registers, fit-banks, fit-count, fit-size
 use Rattle.access.specs.Verdict.{inRam}
 use Rattle.access.proofs.Laws.{ram-window, below-ram}
 use Rattle.windows.specs.Windows.{Small, Stands, byWay, ramAt, romAt, windowsFrom, windowsBy}
-use Rattle.windows.specs.Through.{placeIn, ramSeen, seenOf, putBy, putOf, areaBy, areaAfter}
+use Rattle.windows.specs.Through.{placeIn, ramSeen, romStart, seenOf, putBy, putOf, areaBy, areaAfter}
 use Rattle.windows.specs.declared.Windows.{Windows}
 use Rattle.windows.specs.declared.RamWindow.{RamWindow}
 use Rattle.windows.specs.declared.Seen.the-variants.{Byte}
@@ -69,25 +69,20 @@ fit-stands c e = record { some = fit-banks c e; few = fit-count c e; small = fit
 -- ---- a read by its address
 
 module _ (w : Windows) (rom ram : List ℕ) (addr : ℕ) where
-  by-tests : {low high inside : Bool} → ltb addr 0x4000 ≡ low → ltb addr 0x8000 ≡ high → inRam addr ≡ inside
-      → pick low (Byte (byteAt rom (w .rom0 + addr)))
-      (pick high (Byte (byteAt rom (w .romx + addr % 0x4000))) (pick inside (ramSeen w ram addr) read.BadAddress))
+  by-tests : {low inside : Bool} → ltb addr 0x8000 ≡ low → inRam addr ≡ inside
+      → pick low (Byte (byteAt rom (romStart w addr + addr % 0x4000))) (pick inside (ramSeen w ram addr) read.BadAddress)
       ≡ seenOf w rom ram addr
   unfolding seenOf
-  by-tests p q r = rw (p, q, r)
+  by-tests p q = rw (p, q)
 
-  pub seen-low : addr < 0x4000 → Byte (byteAt rom (w .rom0 + addr)) ≡ seenOf w rom ram addr
-  seen-low h = by-tests (lt-ltb addr 0x4000 h) refl refl
-
-  pub seen-high : 0x4000 ≤ addr → addr < 0x8000 → Byte (byteAt rom (w .romx + addr % 0x4000)) ≡ seenOf w rom ram addr
-  seen-high l h = by-tests (le-ltb addr 0x4000 l) (lt-ltb addr 0x8000 h) refl
+  pub seen-rom : addr < 0x8000 → Byte (byteAt rom (romStart w addr + addr % 0x4000)) ≡ seenOf w rom ram addr
+  seen-rom h = by-tests (lt-ltb addr 0x8000 h) refl
 
   pub seen-ram : 0xA000 ≤ addr → addr < 0xC000 → ramSeen w ram addr ≡ seenOf w rom ram addr
-  seen-ram l h =
-      by-tests (le-ltb addr 0x4000 (omega arith)) (le-ltb addr 0x8000 (omega arith)) (ram-window addr l h)
+  seen-ram l h = by-tests (le-ltb addr 0x8000 (omega arith)) (ram-window addr l h)
 
   pub seen-outside : 0x8000 ≤ addr → inRam addr ≡ false → read.BadAddress ≡ seenOf w rom ram addr
-  seen-outside l h = by-tests (le-ltb addr 0x4000 (omega arith)) (le-ltb addr 0x8000 l) h
+  seen-outside l h = by-tests (le-ltb addr 0x8000 l) h
 
 -- ---- a write by its address
 

@@ -89,22 +89,16 @@ rom-from-0 : (banks bank base addr : ℕ) → base % 0x4000 ≡ 0 → romPlace b
 unfolding placeOf
 rom-from-0 banks bank base addr e = omega (arith, e)
 
-module _ (banks : ℕ) (m : Mapper) (addr : ℕ) where
-  by-window : {b : Bool} → ltb addr 0x4000 ≡ b → romPlace banks (pick b (bank0 m) (bankX m)) addr ≡ romPlace banks (bankAt m addr) addr
-  unfolding bankAt
-  by-window e = ap (λ (b : Bool). romPlace banks (pick b (bank0 m) (bankX m)) addr) (sym e)
-
-  low-place : addr < 0x4000 → romAt banks m 0 + addr ≡ romPlace banks (bankAt m addr) addr
-  unfolding romAt bankAt
-  low-place h =
-      let moved : addr ≡ addr % 0x4000 = omega arith in
-      ap (λ (k : ℕ). romPlace banks (bank0 m) 0 + k) moved
-      ∙ rom-from-0 banks (bank0 m) 0 addr refl
-      ∙ by-window (lt-ltb addr 0x4000 h)
-
-  high-place : 0x4000 ≤ addr → romAt banks m 0x4000 + addr % 0x4000 ≡ romPlace banks (bankAt m addr) addr
-  unfolding romAt bankAt
-  high-place h = rom-from-0 banks (bankX m) 0x4000 addr refl ∙ by-window (le-ltb addr 0x4000 h)
+-- from the place that a window shows first, on to the address's
+rom-seen : (banks : ℕ) (m : Mapper) (addr : ℕ)
+    → pick (ltb addr 0x4000) (romAt banks m 0) (romAt banks m 0x4000) + addr % 0x4000 ≡ romPlace banks (bankAt m addr) addr
+unfolding romAt bankAt
+rom-seen banks m addr = go (ltb addr 0x4000)
+  where
+    go : (b : Bool) → pick b (romPlace banks (bank0 m) 0) (romPlace banks (bankX m) 0x4000) + addr % 0x4000
+        ≡ romPlace banks (pick b (bank0 m) (bankX m)) addr
+    go true = rom-from-0 banks (bank0 m) 0 addr refl
+    go false = rom-from-0 banks (bankX m) 0x4000 addr refl
 
 -- ---- "for every address, reading through the windows gives what the state gives", and asks where a clock register stands
 
@@ -120,17 +114,11 @@ module _ (c : Cartridge) (rom ram : List ℕ) (addr : ℕ) (l : Lent c rom ram) 
       ∙ ap (λ (b : Bool). pick (both b (asksOf c)) seen.Ask (fromRead a)) (sym p)
       ∙ ap (λ x. pick (both (inRam addr) (asksOf c)) seen.Ask (fromRead x)) (sym q)
 
-  sees-low : addr < 0x4000 → Sees
+  sees-rom : addr < 0x8000 → Sees
   unfolding windowsBy
-  sees-low h =
-      by-answer (below-ram addr (omega arith)) (bus-rom c rom ram addr l (omega arith))
-      (sym (laws.seen-low (windowsOf c) rom ram addr h) ∙ ap (λ (k : ℕ). seen.Byte (byteAt rom k)) (low-place (c .banks) (c .mapper) addr h))
-
-  sees-high : 0x4000 ≤ addr → addr < 0x8000 → Sees
-  unfolding windowsBy
-  sees-high g h =
+  sees-rom h =
       by-answer (below-ram addr (omega arith)) (bus-rom c rom ram addr l h)
-      (sym (laws.seen-high (windowsOf c) rom ram addr g h) ∙ ap (λ (k : ℕ). seen.Byte (byteAt rom k)) (high-place (c .banks) (c .mapper) addr g))
+      (sym (laws.seen-rom (windowsOf c) rom ram addr h) ∙ ap (λ (k : ℕ). seen.Byte (byteAt rom k)) (rom-seen (c .banks) (c .mapper) addr))
 
   sees-ram : 0xA000 ≤ addr → addr < 0xC000 → Sees
   unfolding windowsBy ramAt window.readOf
@@ -146,16 +134,13 @@ module _ (c : Cartridge) (rom ram : List ℕ) (addr : ℕ) (l : Lent c rom ram) 
   sees-outside g h = by-answer h (bus-outside c rom ram addr l g h) (sym (laws.seen-outside (windowsOf c) rom ram addr g h))
 
   pub window-read : seenOf (windowsOf c) rom ram addr ≡ pick (both (inRam addr) (asksOf c)) seen.Ask (fromRead (bus.readOf c rom ram addr))
-  window-read = go (ltb addr 0x4000) (ltb addr 0x8000) (ltb addr 0xA000) (ltb addr 0xC000) refl refl refl refl
+  window-read = go (ltb addr 0x8000) (ltb addr 0xA000) (ltb addr 0xC000) refl refl refl
     where
-      go : (a b d e : Bool) → ltb addr 0x4000 ≡ a → ltb addr 0x8000 ≡ b → ltb addr 0xA000 ≡ d → ltb addr 0xC000 ≡ e → Sees
-      go true b d e p q r s = sees-low (ltb-true addr 0x4000 p)
-      go false true d e p q r s = sees-high (ltb-false addr 0x4000 p) (ltb-true addr 0x8000 q)
-      go false false true e p q r s =
-          sees-outside (ltb-false addr 0x8000 q) (below-ram addr (ltb-true addr 0xA000 r))
-      go false false false true p q r s = sees-ram (ltb-false addr 0xA000 r) (ltb-true addr 0xC000 s)
-      go false false false false p q r s =
-          sees-outside (ltb-false addr 0x8000 q) (above-ram addr (ltb-false addr 0xC000 s))
+      go : (a b d : Bool) → ltb addr 0x8000 ≡ a → ltb addr 0xA000 ≡ b → ltb addr 0xC000 ≡ d → Sees
+      go true b d p q r = sees-rom (ltb-true addr 0x8000 p)
+      go false true d p q r = sees-outside (ltb-false addr 0x8000 p) (below-ram addr (ltb-true addr 0xA000 q))
+      go false false true p q r = sees-ram (ltb-false addr 0xA000 q) (ltb-true addr 0xC000 r)
+      go false false false p q r = sees-outside (ltb-false addr 0x8000 p) (above-ram addr (ltb-false addr 0xC000 r))
 
   -- what is not a byte is refused with 15
   pub only-15 : (w : BusRefusal) → bus.readOf c rom ram addr ≡ answer.Refuse w → w ≡ BadAddress

@@ -29,10 +29,14 @@ ramSeen w ram addr =
     (w .how)
     read.Ask
 
+-- the place that the window 0x0000 or 0x4000 shows first
+abbrev pub romStart : Windows → ℕ → ℕ
+romStart w addr = pick (ltb addr 0x4000) (w .rom0) (w .romx)
+
 unfoldable pub seenOf : Windows → List ℕ → List ℕ → ℕ → seen.Seen
 seenOf w rom ram addr =
-    pick (ltb addr 0x4000) (Byte (byteAt rom (w .rom0 + addr)))
-    (pick (ltb addr 0x8000) (Byte (byteAt rom (w .romx + addr % 0x4000))) (pick (inRam addr) (ramSeen w ram addr) read.BadAddress))
+    pick (ltb addr 0x8000) (Byte (byteAt rom (romStart w addr + addr % 0x4000)))
+    (pick (inRam addr) (ramSeen w ram addr) read.BadAddress)
 
 unfoldable pub putBy : Windows → put.Put
 putBy w = getD (Done ∷ Done ∷ Done ∷ []) (w .how) write.Ask

@@ -1,11 +1,12 @@
 // Where the three windows of a cartridge stand, as five numbers that a caller keeps. While they hold, reads and RAM writes need no
 // look at the state; only a write below 0x8000 or a save that is read makes others of them.
 ghost use mathlib.Core.Path.{_≡_};
-ghost use Prim.Native.Nat.{_<_, _≤_};
+ghost use Prim.Native.Nat.{_+_, _%_, _<_, _≤_};
 ghost use lib.ListN.{getD, set};
 ghost use Rattle.banking.specs.Banks.{Inside, romPlace};
+ghost use Rattle.image.specs.Image.{byteAt};
 ghost use Rattle.windows.specs.Windows.{maskOf, unmapped, bytesAt, halvesAt, asks, Small, byWay, ramAt, windowsBy, Stands, askOf};
-ghost use Rattle.windows.specs.Through.{placeIn, ramSeen, seenOf, putBy, areaBy, putOf, areaAfter};
+ghost use Rattle.windows.specs.Through.{placeIn, ramSeen, romStart, seenOf, putBy, areaBy, putOf, areaAfter};
 use banking::RamAt;
 use cartridge::Cartridge;
 use mapper::Mapper;
@@ -195,15 +196,26 @@ fn ram_seen(w: Windows, ram: &[u8], addr: u16) -> Seen
     }
 }
 
+// The place that the ROM window of an address shows first.
+fn rom_start(w: Windows, addr: u16) -> u32
+    ensures { λ r. ⌜ r ≡ romStart w addr ⌝ }
+{
+    if addr < 0x4000 { w.rom0 } else { w.romx }
+}
+
+// What an address reads of the ROM window that shows the image from this place on.
+pub fn rom_byte(rom: &[u8], start: u32, addr: u16) -> u8
+    ensures { λ r. ⌜ r ≡ byteAt (now (rom .entry)) (start + addr % 0x4000) ⌝ }
+{
+    image::byte_at(rom, (start as usize) + ((addr % 0x4000) as usize))
+}
+
 // What an address reads through windows, whatever numbers they are.
 pub fn read(w: Windows, rom: &[u8], ram: &[u8], addr: u16) -> Seen
     ensures { λ r. ⌜ r ≡ seenOf w (now (rom .entry)) (now (ram .entry)) addr ⌝ }
 {
     match addr {
-        0x0000..=0x3FFF => Seen::Byte(image::byte_at(rom, (w.rom0 as usize) + (addr as usize))),
-        0x4000..=0x7FFF => {
-            Seen::Byte(image::byte_at(rom, (w.romx as usize) + ((addr & 0x3FFF) as usize)))
-        }
+        0x0000..=0x7FFF => Seen::Byte(rom_byte(rom, rom_start(w, addr), addr)),
         0xA000..=0xBFFF => ram_seen(w, ram, addr),
         _ => Seen::BadAddress,
     }
