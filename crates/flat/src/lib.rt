@@ -114,8 +114,7 @@ fn fit_kind(s: &[u8], kind: u8) -> bool
 }
 
 // Whether the bytes, of the kind that the first of them says, are a fit state.
-pub fn fit(s: &[u8], kind: u8) -> bool
-    requires { ⌜ 64 ≤ length (now s) ⌝ }
+pub fn fit(s: &[u8; 64], kind: u8) -> bool
     ensures { λ r. ⌜ r ≡ fitAt (now (s .entry)) kind ⌝ }
 {
     let banks = bytes_le::read_u16(s, 8);

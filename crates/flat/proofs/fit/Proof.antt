@@ -24,9 +24,10 @@ fills-requires : tie.Need-fills-requires
 fills-requires c κs = search needs
 
 returns-2 : tie.Need-returns-2
-returns-2 c = let a = c .before .before .before .before .before .before .before .args in
-    fit-tested (now (a .s)) (a .kind) (c .before .before .before .before .before .read-u16 .ensures) (c .before .before .read-u64 .ensures) refl
-    (sym (c .before .before .before .before .is-bank-count .ensures) ∙ not-false _ (c .before .before .before .if1 .left)) (sym (c .before .fills .ensures) ∙ not-true _ (c .if2 .taken)) refl
+returns-2 c = let b = c .before .before .before .before in
+    let a = b .before .before .before .before .args in
+    fit-tested (now (a .s)) (a .kind) (b .before .before .read-u16 .ensures) (c .before .before .read-u64 .ensures) refl
+    (sym (b .before .is-bank-count .ensures) ∙ not-false _ (b .if1 .left)) (sym (c .before .fills .ensures) ∙ not-true _ (c .if2 .taken)) refl
 
 read-u64-requires-2 : tie.Need-read-u64-requires-2
 read-u64-requires-2 c κs = search needs
@@ -35,20 +36,25 @@ is-ram-size-requires : tie.Need-is-ram-size-requires
 is-ram-size-requires c κs = search needs
 
 returns-3 : tie.Need-returns-3
-returns-3 c = let a = c .before .before .before .before .before .before .before .before .before .before .args in
-    fit-tested (now (a .s)) (a .kind) (c .before .before .before .before .before .before .before .before .read-u16 .ensures) (c .before .before .before .before .before .read-u64 .ensures) (c .before .before .read-u642 .ensures)
-    (sym (c .before .before .before .before .before .before .before .is-bank-count .ensures) ∙ not-false _ (c .before .before .before .before .before .before .if1 .left)) (sym (c .before .before .before .before .fills .ensures) ∙ not-false _ (c .before .before .before .if2 .left))
+returns-3 c = let f = c .before .before .before .before in
+    let b = f .before .before .before .before in
+    let a = b .before .before .before .before .args in
+    fit-tested (now (a .s)) (a .kind) (b .before .before .read-u16 .ensures) (f .before .before .read-u64 .ensures) (c .before .before .read-u642 .ensures)
+    (sym (b .before .is-bank-count .ensures) ∙ not-false _ (b .if1 .left)) (sym (f .before .fills .ensures) ∙ not-false _ (f .if2 .left))
     (sym (c .before .is-ram-size .ensures) ∙ not-true _ (c .if3 .taken))
 
 fit-kind-requires : tie.Need-fit-kind-requires
 fit-kind-requires c κs = search needs
 
 returns-4 : tie.Need-returns-4
-returns-4 c = let a = c .before .before .before .before .before .before .before .before .before .before .before .args in
+returns-4 c = let r = c .before .before in
+    let f = r .before .before .before .before in
+    let b = f .before .before .before .before in
+    let a = b .before .before .before .before .args in
     c .fit-kind .ensures
-    ∙ fit-tested (now (a .s)) (a .kind) (c .before .before .before .before .before .before .before .before .before .read-u16 .ensures) (c .before .before .before .before .before .before .read-u64 .ensures) (c .before .before .before .read-u642 .ensures)
-    (sym (c .before .before .before .before .before .before .before .before .is-bank-count .ensures) ∙ not-false _ (c .before .before .before .before .before .before .before .if1 .left)) (sym (c .before .before .before .before .before .fills .ensures) ∙ not-false _ (c .before .before .before .before .if2 .left))
-    (sym (c .before .before .is-ram-size .ensures) ∙ not-false _ (c .before .if3 .left))
+    ∙ fit-tested (now (a .s)) (a .kind) (b .before .before .read-u16 .ensures) (f .before .before .read-u64 .ensures) (r .before .before .read-u642 .ensures)
+    (sym (b .before .is-bank-count .ensures) ∙ not-false _ (b .if1 .left)) (sym (f .before .fills .ensures) ∙ not-false _ (f .if2 .left))
+    (sym (r .before .is-ram-size .ensures) ∙ not-false _ (r .if3 .left))
 
 pub fit-spec : {M : Type 1} → statement M
 fit-spec =

@@ -19,14 +19,14 @@ advance-mapper-requires c κs = search needs
 
 returns : tie.Need-returns
 returns c =
-    let d = c .before .before .before .before in
+    let d = c .before .before .before in
     let a = d .before .before .before .args in
     unfit-clocked (now (a .s)) (a .n) (d .read-u8 .ensures) (c .before .fit .ensures) (c .if1 .taken)
 
 returns-2 : tie.Need-returns-2
 returns-2 c =
     let f = c .before .before .before .before .before .before in
-    let d = f .before .before .before in
+    let d = f .before .before in
     let a = d .before .before .before .args in
     fit-clocked (now (a .s)) (a .n) (d .read-u8 .ensures) (f .fit .ensures) (c .before .before .before .before .before .if1 .left)
     (c .before .before .mapper-in .ensures) (c .advance-mapper .ensures)

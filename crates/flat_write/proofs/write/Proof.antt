@@ -14,14 +14,14 @@ fit-requires c κs = search needs
 
 returns : tie.Need-returns
 returns c =
-    let d = c .before .before .before .before in
+    let d = c .before .before .before in
     let a = d .before .before .before .before .args in
     unfit-written (now (a .s)) (now (a .ram)) (a .addr) (a .byte) (d .read-u8 .ensures) (c .before .fit .ensures) (c .if1 .taken)
 
 write-fit-requires : tie.Need-write-fit-requires
 write-fit-requires c κs =
     let f = c .before .before .before in
-    let d = f .before .before .before in
+    let d = f .before .before in
     fit-cart (now (d .before .before .before .before .args .s)) (d .read-u8 .ensures) (f .fit .ensures) (c .before .before .if1 .left)
 
 same-length : tie.Need-same-length
@@ -30,7 +30,7 @@ same-length c = search needs
 returns-2 : tie.Need-returns-2
 returns-2 c =
     let f = c .before .before .before .before .before .before in
-    let d = f .before .before .before in
+    let d = f .before .before in
     let a = d .before .before .before .before .args in
     fit-written (now (a .s)) (now (a .ram)) (a .addr) (a .byte) (d .read-u8 .ensures) (f .fit .ensures)
     (c .before .before .before .before .before .if1 .left) (c .before .before .write-fit .ensures)
