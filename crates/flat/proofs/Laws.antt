@@ -62,13 +62,6 @@ area-of-size s k size =
 
 -- ---- fitness
 
-pub registers-tested : (s : List ℕ) (at : ℕ) {a b h d : ℕ} {x y t : Bool} → a ≡ fieldAt 1 s at → b ≡ fieldAt 1 s (at + 1)
-    → h ≡ fieldAt 1 s (at + 2) → d ≡ fieldAt 2 s (at + 3) → x ≡ both (ltb h 32) (ltb d 512) → y ≡ both (ltb b 64) x
-    → t ≡ both (ltb a 64) y
-    → t ≡ fitRegisters (registersIn s at)
-unfolding fitRegisters
-registers-tested s at p q r e x y t = rw (sym p, sym q, sym r, sym e, sym x, sym y) t
-
 pub clock-tested : (s : List ℕ) {n : ℕ} {a b x t : Bool} → n ≡ fieldAt 4 s 40 → a ≡ fitRegisters (registersIn s 45)
     → b ≡ fitRegisters (registersIn s 52) → x ≡ both b (ltb n 2097152) → t ≡ both a x
     → t ≡ fitClock (clockIn s)

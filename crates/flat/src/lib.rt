@@ -8,7 +8,6 @@ ghost use lib.ListN.{length};
 ghost use Rattle.facts.specs.Choice.{both};
 ghost use Rattle.bytes_le.specs.Little.{fieldAt};
 ghost use Rattle.types.specs.Types.{beyondOf};
-ghost use Rattle.clock_registers.specs.Fit.{fitRegisters};
 ghost use Rattle.clock.specs.Fit.{fitClock};
 ghost use Rattle.mbc1.specs.Registers as mbc1;
 ghost use Rattle.mbc3.specs.Registers as mbc3;
@@ -20,7 +19,7 @@ ghost use Rattle.access.specs.declared.BusRefusal.the-variants.{Unfit};
 ghost use Rattle.bus.specs.Bus as bus;
 ghost use Rattle.bus.specs.declared.ReadAnswer.the-variants.{Refuse};
 ghost use Rattle.state_fields.specs.Fields.{areFlags};
-ghost use Rattle.state_fields.specs.ClockFields.{registersIn, clockIn};
+ghost use Rattle.state_fields.specs.ClockFields.{clockIn};
 ghost use Rattle.states.specs.Reading.{flagsOf, mbc1In, timedIn, mapperAt, cartAt, decodeOf};
 ghost use Rattle.states.specs.OnState.{onState};
 ghost use Rattle.flat.specs.Kinds.{fitKind, fitAt};
@@ -32,27 +31,13 @@ use mapper::Mapper;
 use mbc2::Mbc2;
 use mbc3::Mbc3;
 use no_mapper::NoMapper;
+use state_fields::fit_clock_registers;
 use states::mbc1_in;
 use states::mbc2_in;
 use states::mbc5_in;
 use states::timed_in;
 use states::untimed_in;
 use types::Kind;
-
-// Whether the registers of a clock that stand at a place are fit.
-fn fit_clock_registers(s: &[u8], at: usize) -> bool
-    requires { ⌜ at + 7 ≤ length (now s) ⌝ }
-    ensures { λ r. ⌜ r ≡ fitRegisters (registersIn (now (s .entry)) at) ⌝ }
-{
-    let short = both(
-        bytes_le::read_u8(s, at + 2) < 32,
-        bytes_le::read_u16(s, at + 3) < 512,
-    );
-    both(
-        bytes_le::read_u8(s, at) < 64,
-        both(bytes_le::read_u8(s, at + 1) < 64, short),
-    )
-}
 
 fn fit_clock(s: &[u8]) -> bool
     requires { ⌜ 64 ≤ length (now s) ⌝ }

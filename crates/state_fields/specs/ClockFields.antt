@@ -31,8 +31,12 @@ clock k =
     ∷ field 44 1 (bit (k .latched))
     ∷ clockRegisters 45 (k .running) ++ clockRegisters 52 (k .frozen)
 
+-- where halt and carry stand
+abbrev pub registerFlags : ℕ → List ℕ
+registerFlags at = (at + 5) ∷ (at + 6) ∷ []
+
 abbrev pub clockFlags : List ℕ
-clockFlags = 44 ∷ 50 ∷ 51 ∷ 57 ∷ 58 ∷ []
+clockFlags = 44 ∷ registerFlags 45 ++ registerFlags 52
 
 abbrev pub registersIn : List ℕ → ℕ → Registers
 registersIn s at =

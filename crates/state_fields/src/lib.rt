@@ -1,11 +1,14 @@
 // The fields of a state: flags at a place, and a clock at its own.
+ghost use mathlib.Core.List.{List};
 ghost use mathlib.Core.Path.{_≡_};
 ghost use Prim.Native.Nat.{_+_, _≤_};
 ghost use lib.ListN.{length};
 ghost use Rattle.facts.specs.Choice.{bit};
 ghost use Rattle.bytes_le.specs.Little.{putAt};
+ghost use Rattle.clock_registers.specs.Fit.{fitRegisters};
 ghost use Rattle.state_fields.specs.Fields.{stored, flagAt, isFlag, areFlags};
-ghost use Rattle.state_fields.specs.ClockFields.{clockRegisters, clock, clockFlags, registersIn, clockIn};
+ghost use Rattle.state_fields.specs.ClockFields.{clockRegisters, clock, registerFlags, clockFlags, registersIn, clockIn};
+ghost use Rattle.state_fields.specs.Limits.{Part, span, within, maskOf};
 use clock::Clock;
 use clock_registers::Registers;
 use facts::both;
@@ -91,16 +94,37 @@ pub fn clock_in(s: &[u8]) -> Clock
     }
 }
 
-// Whether each of its flags is 0 or 1.
+// Whether eight bytes have none of a mask's bits: so each number among them has no more bits than it may, in one test.
+pub fn is_within(s: &[u8], at: usize, mask: u64) -> bool
+    requires { ⌜ at + 8 ≤ length (now s) ⌝ }
+    ensures { λ r. ⌜ ((ps : List Part) → span ps ≡ 8 → maskOf ps ≡ mask → r ≡ within (now (s .entry)) at ps) ⌝ }
+{
+    bytes_le::read_u64(s, at) & mask == 0
+}
+
+// Whether halt and carry are 0 or 1.
+fn are_register_flags(s: &[u8], at: usize) -> bool
+    requires { ⌜ at + 8 ≤ length (now s) ⌝ }
+    ensures { λ r. ⌜ r ≡ areFlags (now (s .entry)) (registerFlags at) ⌝ }
+{
+    is_within(s, at, 0x00FE_FE00_0000_0000)
+}
+
+// Whether each flag of a clock is 0 or 1.
 pub fn are_clock_flags(s: &[u8]) -> bool
     requires { ⌜ 64 ≤ length (now s) ⌝ }
     ensures { λ r. ⌜ r ≡ areFlags (now (s .entry)) clockFlags ⌝ }
 {
     both(
         is_flag(s, 44),
-        both(
-            is_flag(s, 50),
-            both(is_flag(s, 51), both(is_flag(s, 57), is_flag(s, 58))),
-        ),
+        both(are_register_flags(s, 45), are_register_flags(s, 52)),
     )
+}
+
+// Whether the registers of a clock that stand at a place are fit.
+pub fn fit_clock_registers(s: &[u8], at: usize) -> bool
+    requires { ⌜ at + 8 ≤ length (now s) ⌝ }
+    ensures { λ r. ⌜ r ≡ fitRegisters (registersIn (now (s .entry)) at) ⌝ }
+{
+    is_within(s, at, 0x0000_00FE_00E0_C0C0)
 }
