@@ -95,7 +95,7 @@ pub fn clock_in(s: &[u8]) -> Clock
 }
 
 // Whether eight bytes have none of a mask's bits: so each number among them has no more bits than it may, in one test.
-pub fn is_within(s: &[u8], at: usize, mask: u64) -> bool
+fn is_within(s: &[u8], at: usize, mask: u64) -> bool
     requires { ⌜ at + 8 ≤ length (now s) ⌝ }
     ensures { λ r. ⌜ ((ps : List Part) → span ps ≡ 8 → maskOf ps ≡ mask → r ≡ within (now (s .entry)) at ps) ⌝ }
 {
