@@ -301,7 +301,7 @@ fn windows_in(w: &[u32; 6]) -> Windows
     }
 }
 
-// The number that says where the ROM window of an address stands: by an index, which costs less than to go by cases.
+// Where the ROM window of an address stands: by an index into the numbers, which costs less than to go by cases.
 fn rom_start(windows: &[u32; 6], addr: u16) -> u32
     requires { ⌜ addr < 0x8000 ⌝ }
     ensures { λ r. ⌜ r ≡ romStart (windowsIn (now (windows .entry))) addr ⌝ }
@@ -311,7 +311,7 @@ fn rom_start(windows: &[u32; 6], addr: u16) -> u32
 }
 
 // What an address reads through windows: the byte, 0x10F outside, or 0x200 where the state must be asked. Most reads are of ROM, and
-// have no more to go by than their address.
+// are answered first.
 #[no_mangle]
 pub extern "C" fn imf_window_read(windows: &[u32; 6], image: &[u8], ram: &[u8], addr: u16) -> u32
     ensures { λ r. ⌜ r ≡ windowRead (now (windows .entry)) (now (image .entry)) (now (ram .entry)) addr ⌝ }

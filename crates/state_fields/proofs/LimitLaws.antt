@@ -71,7 +71,7 @@ no-high n k = go (ltb n (2 ^ k)) refl
         let one : 1 * 2 ^ k ≤ n = omega (arith, ltb-false n (2 ^ k) e) in
         ne-eqb (n / 2 ^ k) 0 (λ q. absurd (omega (arith, q, shr-mono k one, shl-shr 1 k)))
 
-pub high-clear : (n w k : ℕ) → n < 2 ^ w → eqb (bitAnd n (2 ^ w - 2 ^ k)) 0 ≡ ltb n (2 ^ k)
+high-clear : (n w k : ℕ) → n < 2 ^ w → eqb (bitAnd n (2 ^ w - 2 ^ k)) 0 ≡ ltb n (2 ^ k)
 high-clear n w k h = go (leb k w) refl
   where
     go : (b : Bool) → leb k w ≡ b → eqb (bitAnd n (2 ^ w - 2 ^ k)) 0 ≡ ltb n (2 ^ k)

@@ -102,7 +102,7 @@ fn is_within(s: &[u8], at: usize, mask: u64) -> bool
     bytes_le::read_u64(s, at) & mask == 0
 }
 
-// Whether halt and carry are 0 or 1.
+// Whether halt and carry, the sixth of its bytes and the seventh, are 0 or 1.
 fn are_register_flags(s: &[u8], at: usize) -> bool
     requires { ⌜ at + 8 ≤ length (now s) ⌝ }
     ensures { λ r. ⌜ r ≡ areFlags (now (s .entry)) (registerFlags at) ⌝ }
@@ -121,7 +121,7 @@ pub fn are_clock_flags(s: &[u8]) -> bool
     )
 }
 
-// Whether the registers of a clock that stand at a place are fit.
+// Whether the registers of a clock that stand at a place are fit: six bits of second and of minute, five of hour, nine of day.
 pub fn fit_clock_registers(s: &[u8], at: usize) -> bool
     requires { ⌜ at + 8 ≤ length (now s) ⌝ }
     ensures { λ r. ⌜ r ≡ fitRegisters (registersIn (now (s .entry)) at) ⌝ }
