@@ -3,6 +3,9 @@
 # The folder with `cart.rom` and `cart.trace` that `make replay` runs on.
 DIR ?= crates/replay/data
 
+# The prover would hand memory back to the system and ask for it anew, all through a check; where it keeps it, a check takes a tenth less.
+export MIMALLOC_PURGE_DELAY ?= -1
+
 # The library is for x86-64. With HERE=yes it is compiled for this machine's own processor, and so is what links it.
 export HERE
 OTHER := $(shell [ "$(HERE)" ] && [ "$$(uname -m)" != x86_64 ] && echo -here)
