@@ -1,9 +1,11 @@
--- Fields one behind the other: written from the first to the last they are their bytes, and each reads back. Assumes nothing.
+-- Fields one behind the other: written from the first to the last they are their bytes, and each reads back, within its width.
+-- Assumes nothing.
 use mathlib.Core.List.{List, [], _∷_, _++_}
 use mathlib.Core.Path.{_≡_, refl, sym, ap, _∙_}
-use Prim.Native.Nat.{ℕ, _+_, _*_, _/_, _%_, _≤_, _<_}
+use Prim.Native.Nat.{ℕ, zero, suc, _+_, _*_, _/_, _%_, _^_, _≤_, _<_}
 use native.Mathlib.Omega.{arith}
 use lib.ListN.{length, take, drop, length-drop}
+use lib.Pow.{pow-pos, pow-add}
 use lib.Seq.{sets, sets-eq, take-at, drop-at, drop-drop, length-take-le}
 use Rattle.bytes_le.specs.Little.{valueOf, bytesOf, fieldAt, putAt, Octets}
 use Rattle.bytes_le.proofs.OctetLaws.{octets-take, octets-drop}
@@ -60,3 +62,16 @@ bytes-field w s at o h =
     let part = take w (drop at s) in
     let n : length part ≡ w = length-take-le w (drop at s) (omega (arith, length-drop at s)) in
     ap (λ (k : ℕ). bytesOf k (valueOf part)) (sym n) ∙ value-back part (octets-take w (drop at s) (octets-drop at s o))
+
+value-lt : (w : ℕ) (l : List ℕ) → Octets l → valueOf (take w l) < room w
+unfolding valueOf
+value-lt zero l o = omega arith
+value-lt (suc w) [] o = pow-pos (suc w * 8)
+value-lt (suc w) (b ∷ l) o =
+    let p : room (suc w) ≡ 256 * room w = ap (λ (k : ℕ). 2 ^ k) (omega arith) ∙ pow-add 2 8 (w * 8) in
+    omega (arith, value-lt w l (o .1), o .0, p)
+
+-- a field that is read is a number of its width
+pub field-lt : (w : ℕ) (s : List ℕ) (at : ℕ) → Octets s → fieldAt w s at < room w
+unfolding fieldAt
+field-lt w s at o = value-lt w (drop at s) (octets-drop at s o)

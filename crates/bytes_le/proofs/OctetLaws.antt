@@ -11,6 +11,10 @@ octets-at [] o i = omega arith
 octets-at (b ∷ bs) o zero = o .0
 octets-at (b ∷ bs) o (suc i) = octets-at bs (o .1) i
 
+pub octets-all : (s : List ℕ) → ((i : ℕ) → getD s i 0 < 256) → Octets s
+octets-all [] h = tt
+octets-all (b ∷ s) h = (h 0, octets-all s (λ i. h (suc i)))
+
 pub octets-drop : (k : ℕ) (s : List ℕ) → Octets s → Octets (drop k s)
 octets-drop zero s o = o
 octets-drop (suc k) [] o = o

@@ -3,19 +3,20 @@
 use mathlib.Core.Bool.{Bool, true, false}
 use mathlib.Core.List.{List, [], _∷_}
 use mathlib.Core.Path.{_≡_, refl, sym, ap, _∙_}
-use Prim.Native.Nat.{ℕ, zero, suc, _+_, _*_, _-_, _/_, _%_, _^_, _<_, _≤_}
+use Prim.Native.Nat.{ℕ, _+_, _*_, _-_, _/_, _%_, _^_, _<_, _≤_}
 use native.Mathlib.Nat.{add-comm, mul-comm, mul-suc, zero-mul, zero-add, add-zero}
 use native.Mathlib.Omega.{arith}
 use lib.Bits.{bitAnd, and-zero-r, and-block, and-high}
 use lib.Dec.{eqb, ltb, leb}
-use lib.ListN.{length, getD, take, drop}
-use lib.Pow.{pow-pos, pow-mono, pow-add, pow-sub-lt, suc-ones, shr-lt, shr-mono, shl-shr, shr-mod}
+use lib.ListN.{length, getD}
+use lib.Pow.{pow-pos, pow-mono, pow-sub-lt, suc-ones, shr-lt, shr-mono, shl-shr, shr-mod}
 use borrow.Author.Tests.{eqb-true, eqb-false, eq-eqb, ne-eqb, ltb-true, ltb-false, lt-ltb, le-ltb, leb-true, leb-false}
 use Rattle.facts.specs.Choice.{both}
 use Rattle.facts.proofs.ChoiceLaws.{both-one}
-use Rattle.bytes_le.specs.Little.{valueOf, fieldAt, Octets}
+use Rattle.bytes_le.specs.Little.{fieldAt, Octets}
 use Rattle.bytes_le.proofs.Laws.{room, read-joined}
-use Rattle.bytes_le.proofs.OctetLaws.{octets-drop}
+use Rattle.bytes_le.proofs.FieldLaws.{field-lt}
+use Rattle.bytes_le.proofs.OctetLaws.{octets-all}
 use Rattle.clock_registers.specs.Fit.{fitRegisters}
 use Rattle.state_fields.specs.Fields.{areFlags}
 use Rattle.state_fields.specs.ClockFields.{registerFlags, registersIn}
@@ -27,20 +28,6 @@ flagParts = any 5 ∷ bits 1 1 ∷ bits 1 1 ∷ any 1 ∷ []
 
 abbrev pub registerParts : List Part
 registerParts = bits 1 6 ∷ bits 1 6 ∷ bits 1 5 ∷ bits 2 9 ∷ any 3 ∷ []
-
--- ---- a field of n bytes is a number of as many bits
-
-value-lt : (n : ℕ) (l : List ℕ) → Octets l → valueOf (take n l) < room n
-unfolding valueOf
-value-lt zero l o = omega arith
-value-lt (suc n) [] o = pow-pos (suc n * 8)
-value-lt (suc n) (b ∷ l) o =
-    let p : room (suc n) ≡ 256 * room n = ap (λ (k : ℕ). 2 ^ k) (omega arith) ∙ pow-add 2 8 (n * 8) in
-    omega (arith, value-lt n l (o .1), o .0, p)
-
-field-lt : (n : ℕ) (s : List ℕ) (at : ℕ) → Octets s → fieldAt n s at < room n
-unfolding fieldAt
-field-lt n s at o = value-lt n (drop at s) (octets-drop at s o)
 
 -- ---- one number, one mask
 
@@ -122,10 +109,6 @@ module _ (s : List ℕ) (o : Octets s) where
       ∙ ap (λ (b : Bool). both b (eqb (bitAnd (fieldAt (span ps) s (at + n)) (maskOf ps)) 0))
       (high-clear (fieldAt n s at) (n * 8) k (field-lt n s at o))
       ∙ ap (both (ltb (fieldAt n s at) (2 ^ k))) (clear-within ps (at + n) (omega (arith, l)))
-
-octets-all : (s : List ℕ) → ((i : ℕ) → getD s i 0 < 256) → Octets s
-octets-all [] h = tt
-octets-all (b ∷ s) h = (h 0, octets-all s (λ i. h (suc i)))
 
 -- a word's test by a mask
 pub word-within : (s : List ℕ) (at : ℕ) {x mask : ℕ} {r : Bool} → ((i : ℕ) → getD s i 0 < 256) → at + 8 ≤ length s

@@ -1,16 +1,12 @@
 -- The fields of a record found in bytes have their widths. Assumes nothing.
 use mathlib.Core.List.{List}
-use mathlib.Core.Path.{_≡_, ap, _∙_, subst}
-use Prim.Native.Nat.{ℕ, zero, suc, _+_, _*_, _/_, _^_, _<_, _≤_}
-use native.Mathlib.Omega.{arith}
+use mathlib.Core.Path.{_≡_, subst}
+use Prim.Native.Nat.{ℕ, _+_, _<_}
 use lib.Dec.{eqb, ltb}
-use lib.ListN.{length, getD}
-use lib.Pow.{pow-add}
-use borrow.Author.Tests.{ltb-false}
+use lib.ListN.{getD}
 use Rattle.facts.proofs.ChoiceLaws.{pick-cases}
-use Rattle.bytes_le.specs.Little.{valueOf, bytesOf, fieldAt, Octets}
-use Rattle.bytes_le.proofs.Laws.{room}
-use Rattle.bytes_le.proofs.FieldLaws.{bytes-field}
+use Rattle.bytes_le.specs.Little.{Octets}
+use Rattle.bytes_le.proofs.FieldLaws.{field-lt}
 use Rattle.trace.specs.Trace.{kindOf, leftAt, wholeAt, markedAt, recordAt}
 use Rattle.trace.specs.declared.Record.{Record}
 use Rattle.trace.specs.declared.Record.the-variants as record′
@@ -20,17 +16,6 @@ use Rattle.trace.specs.declared.Kind.{Kind}
 use Rattle.trace.specs.declared.Kind.the-variants.{Read, Write, Clocks}
 use Rattle.trace.specs.declared.Marked.{Marked}
 use Rattle.trace.specs.declared.Marked.the-variants.{Known, Unknown}
-
-value-lt : (w n : ℕ) → valueOf (bytesOf w n) < room w
-unfolding valueOf bytesOf
-value-lt zero n = omega arith
-value-lt (suc w) n =
-    let p : room (suc w) ≡ 256 * room w = ap (λ (k : ℕ). 2 ^ k) (omega arith) ∙ pow-add 2 8 (w * 8) in
-    omega (arith, value-lt w (n / 256), p)
-
-field-lt : (w : ℕ) (s : List ℕ) (at : ℕ) → Octets s → at + w ≤ length s → fieldAt w s at < room w
-unfolding fieldAt
-field-lt w s at o h = subst (λ (l : List ℕ). valueOf l < room w) (bytes-field w s at o h) (value-lt w (fieldAt w s at))
 
 -- an address has 16 bits, a byte 8, a count 32
 abbrev pub Narrow : Record → Type 0
@@ -47,14 +32,13 @@ narrow-whole : (k : Kind) (s : List ℕ) (at : ℕ) → Octets s → NarrowNext 
 unfolding wholeAt
 narrow-whole Read s at o =
     pick-cases NarrowNext (ltb (leftAt s at) 4) (λ e. tt)
-    (λ e. field-lt 2 s (at + 2) o (omega (arith, ltb-false (leftAt s at) 4 e)))
+    (λ e. field-lt 2 s (at + 2) o)
 narrow-whole Write s at o =
     pick-cases NarrowNext (ltb (leftAt s at) 5) (λ e. tt)
-    (λ e. let l = ltb-false (leftAt s at) 5 e in
-    (field-lt 2 s (at + 2) o (omega (arith, l)), field-lt 1 s (at + 2 + 2) o (omega (arith, l))))
+    (λ e. (field-lt 2 s (at + 2) o, field-lt 1 s (at + 2 + 2) o))
 narrow-whole Clocks s at o =
     pick-cases NarrowNext (ltb (leftAt s at) 6) (λ e. tt)
-    (λ e. field-lt 4 s (at + 2) o (omega (arith, ltb-false (leftAt s at) 6 e)))
+    (λ e. field-lt 4 s (at + 2) o)
 
 narrow-at : (s : List ℕ) (at : ℕ) → Octets s → NarrowNext (recordAt s at)
 unfolding recordAt
