@@ -4,7 +4,8 @@ use std::path::PathBuf;
 
 fn main() {
     println!("cargo:rerun-if-env-changed=IMFELKUZ_LIB");
-    let beside = PathBuf::from(env::var_os("CARGO_MANIFEST_DIR").unwrap()).join("../../target/staticlib");
+    let processor = env::var_os("CARGO_CFG_TARGET_ARCH").unwrap();
+    let beside = PathBuf::from(env::var_os("CARGO_MANIFEST_DIR").unwrap()).join("../../target/library").join(processor);
     let folder = env::var_os("IMFELKUZ_LIB").map_or(beside, PathBuf::from);
     let library = folder.join("libplayer.a");
     println!("cargo:rerun-if-changed={}", library.display());

@@ -9,7 +9,6 @@ use lib.ListN.{length, take, drop}
 use Rattle.facts.specs.Counter.{step, carries}
 use Rattle.bytes_le.specs.Little.{Octets}
 use Rattle.clock_registers.specs.Seconds.{secondOn, secondsOn}
-use Rattle.clock.specs.Access.{startAt}
 use Rattle.clock.specs.declared.Clock.{Clock}
 use Rattle.clock_block.specs.Layout.{blockIn}
 use Rattle.clock_block.specs.Waking.{blockOf, takenOf, timeOf, wokenOf}
@@ -23,6 +22,7 @@ use Rattle.save_file.specs.declared.Saved.the-variants as saved
 use Rattle.save_file.specs.declared.Loaded.the-variants.{Whole}
 use Rattle.runs.specs.Saves.{Kept, Back}
 use Rattle.runs.proofs.SaveLaws as laws
+use Rattle.promises.specs.WaysBack.{Shows, behind, later}
 
 -- 1. A save that was made stands at the start of the room, and the room beyond it stays.
 pub saved-stands-first : (c : Cartridge) (ram room : List ℕ) (wall n : ℕ) → saveOf c ram (length room) wall ≡ saved.Wrote n
@@ -43,12 +43,12 @@ pub ram-comes-back : (m : Mapper) (d : Cartridge) (ram area rest : List ℕ) (wa
 ram-comes-back = laws.ram-back
 
 -- Neither premise can go. A clock at time 0, ten seconds behind the wall time on saving, comes back with second 10;
-pub behind-the-wall-time : wokenOf (blockOf (startAt 0) 10) 10 .running .second ≡ 10
+pub behind-the-wall-time : Shows behind
 unfolding wokenOf blockOf takenOf secondsOn secondOn step carries
 behind-the-wall-time = refl
 
 -- one at time 10, saved at wall time 10 and read at 11, with second 1.
-pub another-wall-time : wokenOf (blockOf (startAt 10) 10) 11 .running .second ≡ 1
+pub another-wall-time : Shows later
 unfolding wokenOf blockOf takenOf secondsOn secondOn step carries
 another-wall-time = refl
 

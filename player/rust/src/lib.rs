@@ -36,14 +36,14 @@
 //! few instructions in the caller's loop, and the fewest by way of [`Cartridge::bus`]. All else is a call into the library. No call
 //! panics, whatever the image, the save or the state holds; a refused one changes nothing.
 //!
-//! The library is for x86-64 Linux, and on an aarch64 machine `make player HERE=yes` builds it for that. The environment variable
-//! `IMFELKUZ_LIB` names its folder where that is not `target/staticlib` of the same repository.
+//! The library is for Linux on x86-64 and on aarch64: `make player` builds both. The environment variable `IMFELKUZ_LIB` names its folder
+//! where that is not `target/library/x86_64` or `target/library/aarch64` of the same repository.
 #![deny(unsafe_op_in_unsafe_fn)]
 #![deny(unsafe_code)]
 #![warn(missing_docs)]
 
 #[cfg(not(any(doc, all(any(target_arch = "x86_64", target_arch = "aarch64"), target_os = "linux"))))]
-compile_error!("libplayer.a is for x86-64 Linux, and for aarch64 with HERE=yes: build for one of these targets");
+compile_error!("libplayer.a is for Linux on x86-64 and on aarch64: build for one of these targets");
 
 mod bus;
 mod refusal;

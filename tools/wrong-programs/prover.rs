@@ -1,0 +1,102 @@
+//! The kit's prover, asked of one crate over a store: a folder in which it keeps what it has checked, module by module, and from which
+//! it takes whatever is still the same.
+
+use std::collections::BTreeMap;
+use std::fs::{self, File};
+use std::io;
+use std::path::{Path, PathBuf};
+use std::process::{Command, Stdio};
+
+pub struct Prover {
+    kit: PathBuf,
+    own: PathBuf,
+    rlibs: PathBuf,
+    libraries: BTreeMap<String, Vec<String>>,
+}
+
+impl Prover {
+    /// Of the kit whose `rt` is on the PATH, for the repository at `top`, whose crates `rt` has proved.
+    pub fn new(top: &Path) -> io::Result<Prover> {
+        let guide = Command::new("rt").arg("doc").output()?;
+        let guide = PathBuf::from(String::from_utf8_lossy(&guide.stdout).trim());
+        let kit = guide.parent().and_then(Path::parent).ok_or_else(|| io::Error::new(io::ErrorKind::NotFound, "'rt doc' names no guide"))?;
+        Ok(Prover {
+            kit: kit.to_path_buf(),
+            own: kit.join("on").join(std::env::consts::ARCH),
+            rlibs: top.join("target/rlib"),
+            libraries: listed(&fs::read_to_string(top.join("crates.txt"))?),
+        })
+    }
+
+    pub fn crates(&self) -> Vec<String> {
+        self.libraries.keys().cloned().collect()
+    }
+
+    /// Checks the crate in `tree` over the store, and leaves all that the prover says in `log`. The exit status, where there is one.
+    pub fn check(&self, name: &str, tree: &Path, store: &Path, log: &Path) -> io::Result<Option<i32>> {
+        let mut root = tree.join("src/main.rt");
+        if !root.exists() {
+            root = tree.join("src/lib.rt");
+        }
+        let said = File::create(log)?;
+        let mut rattle = Command::new(self.own.join("bin/rattle"));
+        rattle.args(["check", "--crate-name", name]).arg(root);
+        rattle.arg("--extern").arg(format!("std={}", self.own.join("rlib/std.rlib").display()));
+        for library in self.libraries.get(name).into_iter().flatten() {
+            rattle.arg("--extern").arg(format!("{library}={}", self.rlib(library).display()));
+        }
+        for folder in [&self.rlibs, &self.own.join("rlib")] {
+            rattle.arg("-L").arg(format!("dependency={}", folder.display()));
+        }
+        rattle.arg("--antt-project").arg(self.kit.join("logic/antt-project.json"));
+        rattle.arg("--logic-built").arg(self.own.join("logic-built"));
+        rattle.arg("--incremental").arg(store);
+        let ended = rattle.stdin(Stdio::null()).stdout(said.try_clone()?).stderr(said).status()?;
+        Ok(ended.code())
+    }
+
+    /// The library as `rt` proved it here, or as the kit has it.
+    fn rlib(&self, library: &str) -> PathBuf {
+        let proved = self.rlibs.join(library).with_extension("rlib");
+        if proved.is_dir() {
+            return proved;
+        }
+        self.own.join("rlib").join(library).with_extension("rlib")
+    }
+
+    /// The modules of a crate that `rt` has proved, as the prover writes them into a library. A store that begins with them has nothing left
+    /// to check of the crate as it stands; where a kit does not know them again, it checks the crate from nothing.
+    pub fn checked(&self, name: &str) -> PathBuf {
+        self.rlib(name).join("toolchain/checked")
+    }
+
+    /// The name of the folder that the prover keeps its modules in, inside a store: from a check of a crate with nothing in it.
+    pub fn store_name(&self, folder: &Path) -> io::Result<String> {
+        fs::create_dir_all(folder.join("src"))?;
+        fs::write(folder.join("src/lib.rt"), "pub fn nothing() {}\n")?;
+        self.check("empty", folder, &folder.join("store"), &folder.join("log"))?;
+        let kept = fs::read_dir(folder.join("store"))?.next().transpose()?;
+        let name = kept.map(|kept| kept.file_name().to_string_lossy().to_string());
+        name.ok_or_else(|| io::Error::new(io::ErrorKind::NotFound, "the prover kept nothing in its store"))
+    }
+}
+
+/// The libraries of each crate, by the lines `NAME: DEP DEP` of crates.txt.
+fn listed(text: &str) -> BTreeMap<String, Vec<String>> {
+    let lines = text.lines().map(|line| line.split('#').next().unwrap_or(""));
+    let pairs = lines.filter_map(|line| line.split_once(':'));
+    pairs.map(|(name, used)| (name.trim().to_string(), used.split_whitespace().map(str::to_string).collect())).collect()
+}
+
+#[cfg(test)]
+mod tests {
+    use super::*;
+
+    #[test]
+    fn a_line_names_a_crate_and_what_it_stands_on() {
+        let found = listed("# NAME: what it stands on\nfacts:\nclock: facts clock_registers # a clock\n\n");
+        assert_eq!(found.len(), 2);
+        assert!(found["facts"].is_empty());
+        assert_eq!(found["clock"], ["facts", "clock_registers"]);
+    }
+}

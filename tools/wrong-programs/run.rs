@@ -1,0 +1,207 @@
+//! A run: every wrong program of some crates, tried by as many hands as asked.
+
+use crate::edit;
+use crate::folder::{copied, weight};
+use crate::prover::Prover;
+use crate::queue::{Queue, Task};
+use crate::verdict::{self, Verdict};
+use std::cmp::Reverse;
+use std::collections::BTreeMap;
+use std::fs;
+use std::io;
+use std::path::{Path, PathBuf};
+use std::sync::Mutex;
+use std::time::Instant;
+
+/// How many wrong programs were refused at a fact, and how many not.
+#[derive(Default)]
+pub struct Tally {
+    pub passed: usize,
+    pub failed: usize,
+}
+
+pub struct Run {
+    top: PathBuf,
+    /// Where copies stand while they are needed, and where the logs stay.
+    room: PathBuf,
+    logs: PathBuf,
+    prover: Prover,
+    store_name: String,
+    folders: Vec<String>,
+    tally: Mutex<Tally>,
+    /// How many edits of a crate are still to be tried over its store.
+    left: Mutex<BTreeMap<String, usize>>,
+}
+
+impl Drop for Run {
+    fn drop(&mut self) {
+        let _ = fs::remove_dir_all(&self.room);
+    }
+}
+
+impl Run {
+    /// On the repository at `top`, with the edits of these folders of each crate.
+    pub fn new(top: PathBuf, folders: Vec<String>) -> io::Result<Run> {
+        let room = std::env::temp_dir().join(format!("wrong-programs-{}", std::process::id()));
+        let logs = top.join("target/wrong-programs");
+        let _ = fs::remove_dir_all(&logs);
+        fs::create_dir_all(&logs)?;
+        let prover = Prover::new(&top)?;
+        let mut run =
+            Run { top, room, logs, prover, store_name: String::new(), folders, tally: Mutex::default(), left: Mutex::default() };
+        run.store_name = run.prover.store_name(&run.room.join("empty"))?;
+        Ok(run)
+    }
+
+    /// Tries all edits of these crates, or of all crates. What costs most begins, so that no hand is left alone with it at the end.
+    pub fn go(&self, named: &[String], hands: usize) -> io::Result<Tally> {
+        let mut crates = self.with_edits(named)?;
+        crates.sort_by_key(|name| Reverse(weight(&self.prover.checked(name))));
+        let queue = Queue::new(crates);
+        std::thread::scope(|scope| {
+            for _ in 0..hands {
+                scope.spawn(|| self.work(&queue));
+            }
+        });
+        Ok(std::mem::take(&mut self.tally.lock().unwrap()))
+    }
+
+    fn with_edits(&self, named: &[String]) -> io::Result<Vec<String>> {
+        let all = self.prover.crates();
+        if let Some(stranger) = named.iter().find(|name| !all.contains(name)) {
+            return Err(io::Error::new(io::ErrorKind::NotFound, format!("crates.txt lists no crate '{stranger}'")));
+        }
+        let wanted = if named.is_empty() { all } else { named.to_vec() };
+        Ok(wanted.into_iter().filter(|name| !self.edits(name).is_empty()).collect())
+    }
+
+    fn crate_folder(&self, name: &str) -> PathBuf {
+        self.top.join("crates").join(name)
+    }
+
+    /// The edits of a crate, as FOLDER/LABEL.
+    fn edits(&self, name: &str) -> Vec<String> {
+        let mut found = Vec::new();
+        for folder in &self.folders {
+            let files = fs::read_dir(self.crate_folder(name).join(folder)).into_iter().flatten().flatten();
+            let names = files.filter_map(|file| file.file_name().into_string().ok());
+            found.extend(names.filter_map(|file| file.strip_suffix(".edit").map(|label| format!("{folder}/{label}"))));
+        }
+        found.sort();
+        found
+    }
+
+    fn work(&self, queue: &Queue) {
+        while let Some(task) = queue.next() {
+            match task {
+                Task::Ready(name) => queue.ready(&name, self.readied(&name)),
+                Task::Try(name, edit) => self.tried(&name, &edit),
+            }
+        }
+    }
+
+    /// The edits that can be tried: all of the crate, or none where it is not proved as it stands.
+    fn readied(&self, name: &str) -> Vec<String> {
+        let edits = self.edits(name);
+        if let Err(why) = self.checked_as_it_stands(name) {
+            self.tell(name, edits.len(), Err(format!("its {} wrong programs show nothing: {why}", edits.len())));
+            return Vec::new();
+        }
+        self.left.lock().unwrap().insert(name.to_string(), edits.len());
+        edits
+    }
+
+    fn tried(&self, name: &str, edit: &str) {
+        let began = Instant::now();
+        let label = edit.rsplit('/').next().unwrap_or(edit);
+        let how = self.attempt(name, edit, label);
+        let how = how.map(|place| format!("refused, at {place} ({:.1} s)", began.elapsed().as_secs_f64()));
+        self.tell(&format!("{name}/{label}"), 1, how);
+        self.one_less(name);
+    }
+
+    /// Removes a crate's store when its last edit has been tried.
+    fn one_less(&self, name: &str) {
+        let mut left = self.left.lock().unwrap();
+        let count = left.entry(name.to_string()).or_insert(1);
+        *count -= 1;
+        if *count == 0 {
+            let _ = fs::remove_dir_all(self.room.join(name));
+        }
+    }
+
+    fn log(&self, name: &str, label: &str) -> io::Result<PathBuf> {
+        let folder = self.logs.join(name);
+        fs::create_dir_all(&folder)?;
+        Ok(folder.join(format!("{label}.log")))
+    }
+
+    /// Counts, and prints one line.
+    fn tell(&self, what: &str, count: usize, how: Result<String, String>) {
+        let mut tally = self.tally.lock().unwrap();
+        match how {
+            Ok(words) => {
+                tally.passed += count;
+                println!("wrong {what}: {words}");
+            }
+            Err(words) => {
+                tally.failed += count;
+                println!("wrong {what}: FAILED: {}", words.chars().take(300).collect::<String>());
+            }
+        }
+    }
+
+    fn store(&self, name: &str) -> PathBuf {
+        self.room.join(name).join("store")
+    }
+
+    /// Checks the crate over what `rt` has proved of it: then its store is filled, and whatever is refused is an edit's doing.
+    fn checked_as_it_stands(&self, name: &str) -> Result<(), String> {
+        let store = self.store(name);
+        let status = copied(&self.prover.checked(name), &store.join(&self.store_name))
+            .and_then(|()| self.log(name, "as-it-stands"))
+            .and_then(|log| self.prover.check(name, &self.crate_folder(name), &store, &log))
+            .map_err(|why| why.to_string())?;
+        if status == Some(0) {
+            return Ok(());
+        }
+        Err(format!("the crate is not proved as it stands (target/wrong-programs/{name}/as-it-stands.log)"))
+    }
+
+    /// Tries one edit: the place where it is refused, or what is wrong with it. Only its log stays.
+    fn attempt(&self, name: &str, edit: &str, label: &str) -> Result<String, String> {
+        let room = self.room.join(name);
+        let (tree, store) = (room.join(label), room.join(format!("{label}.store")));
+        let verdict = self
+            .edited(name, edit, &tree)
+            .and_then(|()| self.checked_edited(name, label, &tree, &store).map_err(|why| why.to_string()));
+        let _ = fs::remove_dir_all(&tree);
+        let _ = fs::remove_dir_all(&store);
+        match verdict? {
+            Verdict::Refused(place) => Ok(place),
+            Verdict::Survived => Err("not refused: the crate is still proved with this edit".to_string()),
+            Verdict::Unfit(why) => Err(format!("refused for no fact: {why}")),
+            Verdict::Unreached(why) => Err(format!("it does not reach the prover: {why}")),
+        }
+    }
+
+    /// Makes a copy of the crate with the edit's changes.
+    fn edited(&self, name: &str, edit: &str, tree: &Path) -> Result<(), String> {
+        let path = self.crate_folder(name).join(edit).with_extension("edit");
+        let text = fs::read_to_string(path).map_err(|why| why.to_string())?;
+        let changes = edit::read(&text).map_err(|why| format!("bad edit: {why}"))?;
+        for part in ["src", "specs", "proofs"] {
+            copied(&self.crate_folder(name).join(part), &tree.join(part)).map_err(|why| why.to_string())?;
+        }
+        edit::apply(&changes, tree).map_err(|why| format!("bad edit: {why}"))
+    }
+
+    /// Checks such a copy over a copy of the crate's store.
+    fn checked_edited(&self, name: &str, label: &str, tree: &Path, store: &Path) -> io::Result<Verdict> {
+        copied(&self.store(name), store)?;
+        let log = self.log(name, label)?;
+        let status = self.prover.check(name, tree, store, &log)?;
+        let said = fs::read(log)?;
+        Ok(verdict::of(status, &String::from_utf8_lossy(&said), &tree.to_string_lossy()))
+    }
+}
