@@ -6,6 +6,9 @@ DIR ?= crates/replay/data
 # The prover would hand memory back to the system and ask for it anew, all through a check; where it keeps it, a check takes a tenth less.
 export MIMALLOC_PURGE_DELAY ?= -1
 
+# Three provers at a time keep two cores busy: `rt` goes in rounds that wait for their slowest.
+export RT_JOBS ?= 3
+
 # Temporary files, of which a check writes thousands: in memory where there is room.
 export TMPDIR := $(shell tools/scratch)
 
@@ -16,7 +19,7 @@ PROCESSOR := $(or $(TARGET),$(shell uname -m))
 # The folder of libplayer.a. Where PLAYER_LIB names one, that library is taken as it stands.
 LIBRARY := $(if $(PLAYER_LIB),$(abspath $(PLAYER_LIB)),$(CURDIR)/target/library/$(PROCESSOR))
 PLAYER := $(CURDIR)/target/player/$(PROCESSOR)
-CARGO = cd player/rust && IMFELKUZ_LIB="$(LIBRARY)" CARGO_TARGET_DIR="$(PLAYER)/cargo" ../../tools/target cargo
+CARGO = player/cargo "$(LIBRARY)" "$(PLAYER)"
 
 # All tests, from nothing. The last line is 'N passed, M failed'.
 test: kit
@@ -26,9 +29,9 @@ test: kit
 quick: kit
 	@TARGET= tools/quick
 
-# The wrong programs of CRATE, or of all crates.
+# The wrong programs of CRATE, or of all crates, once they are proved as they stand.
 wrong: kit
-	@rt check $(CRATE) >/dev/null || { echo "not proved: 'rt check $(CRATE)' says what"; exit 1; }
+	@tools/proved $(CRATE)
 	@tools/wrong --folder must-fail --folder wrong $(CRATE)
 
 # docs/TIMES.md, from what the last `make test` took.
@@ -37,9 +40,8 @@ times:
 
 # The replay program, proved and built where that is not yet done, on a folder's cartridge and trace.
 replay: kit
-	@mkdir -p target
 	@echo "Proving and building the replay program: minutes the first time, then at once." >&2
-	@rt check replay >target/replay.log 2>&1 || { cat target/replay.log; exit 1; }
+	@tools/proved replay >&2
 	@tools/run-program "$(CURDIR)/target/bin/replay" "$(DIR)"
 
 # The library that players link, proved and built, and what links it: the Rust crate with its example and its pages, and the C test.
@@ -53,9 +55,8 @@ player: tools player-library
 player-library:
 ifeq ($(PLAYER_LIB),)
 player-library: kit
-	@mkdir -p target
 	@echo "Proving and building libplayer.a: minutes the first time, then half of one." >&2
-	@tools/library target/library
+	@tools/library target/library >&2
 endif
 
 # The header in C and C++, the crate's tests, and its example on the bundled trace.

@@ -1,5 +1,5 @@
-//! An edit turns a good crate into a wrong one. A line `file: PATH` names a file of the crate; each pair of lines `old: TEXT` and
-//! `new: TEXT` behind it exchanges a text that stands there exactly once. Every other line is a comment: it says what the slip is.
+//! An edit turns a good crate into a wrong one. Its first line says what the slip is. A line `file: PATH` names a file of the crate; each pair
+//! of lines `old: TEXT` and `new: TEXT` behind it exchanges a text that stands there exactly once. Every other line is a comment.
 
 use std::fs;
 use std::path::Path;
@@ -15,10 +15,16 @@ pub struct Change {
 pub fn read(text: &str) -> Result<Vec<Change>, String> {
     let (mut file, mut old) = (String::new(), String::new());
     let mut changes = Vec::new();
+    if text.trim().is_empty() || text.starts_with("file: ") {
+        return Err("no first line says what the slip is".to_string());
+    }
     for line in text.lines() {
         if let Some(path) = line.strip_prefix("file: ") {
             file = of_the_crate(path)?;
         } else if let Some(words) = line.strip_prefix("old: ") {
+            if !old.is_empty() {
+                return Err(format!("no 'new:' line follows 'old: {old}'"));
+            }
             old = words.to_string();
         } else if let Some(words) = line.strip_prefix("new:") {
             if file.is_empty() || old.is_empty() {
@@ -27,6 +33,9 @@ pub fn read(text: &str) -> Result<Vec<Change>, String> {
             let new = words.strip_prefix(' ').unwrap_or(words).to_string();
             changes.push(Change { file: file.clone(), old: std::mem::take(&mut old), new });
         }
+    }
+    if !old.is_empty() {
+        return Err(format!("no 'new:' line follows 'old: {old}'"));
     }
     if changes.is_empty() {
         return Err("it has no 'old:' and 'new:' pair".to_string());
@@ -78,15 +87,22 @@ mod tests {
 
     #[test]
     fn an_edit_without_a_pair_is_none() {
-        assert!(read("file: src/lib.rt\nold: a\n").is_err());
-        assert!(read("file: src/lib.rt\nnew: a\n").is_err());
-        assert!(read("old: a\nnew: b\n").is_err());
+        for pair in ["old: a\n", "new: a\n", "old: a\nold: b\nnew: c\n", "old: a\nnew: b\nold: c\nNew: d\n", ""] {
+            assert!(read(&format!("A slip.\nfile: src/lib.rt\n{pair}")).is_err(), "{pair}");
+        }
+        assert!(read("A slip.\nold: a\nnew: b\n").is_err());
+    }
+
+    #[test]
+    fn an_edit_says_what_its_slip_is() {
+        assert!(read("file: src/lib.rt\nold: a\nnew: b\n").is_err());
+        assert!(read("").is_err());
     }
 
     #[test]
     fn an_edit_stays_inside_its_crate() {
-        assert!(read("file: src/../../other/src/lib.rt\nold: a\nnew: b\n").is_err());
-        assert!(read("file: stdout\nold: a\nnew: b\n").is_err());
+        assert!(read("A slip.\nfile: src/../../other/src/lib.rt\nold: a\nnew: b\n").is_err());
+        assert!(read("A slip.\nfile: stdout\nold: a\nnew: b\n").is_err());
     }
 
     #[test]

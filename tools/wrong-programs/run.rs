@@ -13,6 +13,10 @@ use std::path::{Path, PathBuf};
 use std::sync::Mutex;
 use std::time::Instant;
 
+fn lost(why: String) -> io::Error {
+    io::Error::new(io::ErrorKind::NotFound, why)
+}
+
 /// How many wrong programs were refused at a fact, and how many not.
 #[derive(Default)]
 pub struct Tally {
@@ -66,13 +70,59 @@ impl Run {
         Ok(std::mem::take(&mut self.tally.lock().unwrap()))
     }
 
+    /// Judges what `rt` has tried itself, in this folder, by what the prover said of it: only a refusal for no fact is told and counted.
+    pub fn judge(&self, tried: &Path) -> io::Result<()> {
+        let tried = &fs::canonicalize(tried)?;
+        for entry in fs::read_dir(tried)? {
+            let of_crate = entry?.path();
+            for entry in fs::read_dir(&of_crate)?.flatten().filter(|entry| entry.path().is_dir()) {
+                let tree = entry.path();
+                let said = fs::read(tree.join(".log"))?;
+                if let Err(why) = judged(verdict::of(Some(1), &String::from_utf8_lossy(&said), &tree.to_string_lossy())) {
+                    let what = tree.strip_prefix(tried).unwrap_or(&tree).display().to_string();
+                    self.tell(&what, 1, Err(why));
+                }
+            }
+        }
+        Ok(())
+    }
+
     fn with_edits(&self, named: &[String]) -> io::Result<Vec<String>> {
         let all = self.prover.crates();
         if let Some(stranger) = named.iter().find(|name| !all.contains(name)) {
-            return Err(io::Error::new(io::ErrorKind::NotFound, format!("crates.txt lists no crate '{stranger}'")));
+            return Err(lost(format!("crates.txt lists no crate '{stranger}'")));
         }
-        let wanted = if named.is_empty() { all } else { named.to_vec() };
-        Ok(wanted.into_iter().filter(|name| !self.edits(name).is_empty()).collect())
+        let wanted = if named.is_empty() { self.with_folders(&all)? } else { named.to_vec() };
+        let found: Vec<String> = wanted.into_iter().filter(|name| !self.edits(name).is_empty()).collect();
+        if found.is_empty() && named.is_empty() {
+            return Err(lost(format!("no crate has wrong programs in {}", self.folders.join(", "))));
+        }
+        Ok(found)
+    }
+
+    /// The crates that have one of the folders; each is listed, and every file in such a folder is an edit.
+    fn with_folders(&self, listed: &[String]) -> io::Result<Vec<String>> {
+        let mut found = Vec::new();
+        for entry in fs::read_dir(self.top.join("crates"))? {
+            let name = entry?.file_name().to_string_lossy().to_string();
+            let folders: Vec<PathBuf> = self.folders.iter().map(|folder| self.crate_folder(&name).join(folder)).filter(|f| f.exists()).collect();
+            if folders.is_empty() {
+                continue;
+            }
+            if !listed.contains(&name) {
+                return Err(lost(format!("crates.txt lists no crate '{name}', which has wrong programs")));
+            }
+            for folder in folders {
+                for file in fs::read_dir(folder)? {
+                    let path = file?.path();
+                    if path.extension().map_or(true, |end| end != "edit") {
+                        return Err(lost(format!("{} is no .edit", path.display())));
+                    }
+                }
+            }
+            found.push(name);
+        }
+        Ok(found)
     }
 
     fn crate_folder(&self, name: &str) -> PathBuf {
@@ -177,12 +227,7 @@ impl Run {
             .and_then(|()| self.checked_edited(name, label, &tree, &store).map_err(|why| why.to_string()));
         let _ = fs::remove_dir_all(&tree);
         let _ = fs::remove_dir_all(&store);
-        match verdict? {
-            Verdict::Refused(place) => Ok(place),
-            Verdict::Survived => Err("not refused: the crate is still proved with this edit".to_string()),
-            Verdict::Unfit(why) => Err(format!("refused for no fact: {why}")),
-            Verdict::Unreached(why) => Err(format!("it does not reach the prover: {why}")),
-        }
+        judged(verdict?)
     }
 
     /// Makes a copy of the crate with the edit's changes.
@@ -203,5 +248,15 @@ impl Run {
         let status = self.prover.check(name, tree, store, &log)?;
         let said = fs::read(log)?;
         Ok(verdict::of(status, &String::from_utf8_lossy(&said), &tree.to_string_lossy()))
+    }
+}
+
+/// The place of a refusal at a fact, or why a verdict is none.
+fn judged(verdict: Verdict) -> Result<String, String> {
+    match verdict {
+        Verdict::Refused(place) => Ok(place),
+        Verdict::Survived => Err("not refused: the crate is still proved with this edit".to_string()),
+        Verdict::Unfit(why) => Err(format!("refused for no fact: {why}")),
+        Verdict::Unreached(why) => Err(format!("it does not reach the prover: {why}")),
     }
 }

@@ -56,6 +56,17 @@ fn refusals(said: &str, tree: &str) -> Vec<Refusal> {
     found
 }
 
+/// What the prover says of a text that names a thing that is not there, or takes one for what it is not.
+const NAMES_NOTHING: [&str; 7] = [
+    "that can be named from here",
+    "has no field `",
+    "is not in scope",
+    "is not a constructor",
+    "has too few arguments",
+    "too many arguments",
+    "no module is found",
+];
+
 impl Refusal {
     /// Refused only because it cites what was refused.
     fn follows(&self) -> bool {
@@ -70,7 +81,7 @@ impl Refusal {
         }
         let declared = self.words.strip_prefix('`').and_then(|words| words.split('`').next()).unwrap_or("");
         let together = self.place.contains("/Proof.antt:") && declared.ends_with("-spec");
-        let names_nothing = ["that can be named from here", "has no field `"].iter().any(|words| self.words.contains(words));
+        let names_nothing = NAMES_NOTHING.iter().any(|words| self.words.contains(words));
         self.place.starts_with("proofs/") && !together && !names_nothing
     }
 }
