@@ -1,6 +1,6 @@
 /*
  * imfelkuz.h: a Game Boy cartridge (header, MBC1, MBC2, MBC3 with its clock, MBC5, save file), for programs in C11 or C++17 that link
- * libplayer.a (x86-64 Linux). Every call is proved to answer as its definition says, for all bytes that it is lent.
+ * libplayer.a (Linux on x86-64 or aarch64). Every call is proved to answer as its definition says, for all bytes that it is lent.
  *
  *     imf_facts facts;
  *     imf_cart cart;
