@@ -6,6 +6,10 @@ use std::fs::{self, File};
 use std::io;
 use std::path::{Path, PathBuf};
 use std::process::{Command, Stdio};
+use std::time::{Duration, Instant};
+
+/// A check of the largest crate from nothing takes a minute on slow cores; one that takes ten will not end.
+const LIMIT: Duration = Duration::from_secs(600);
 
 pub struct Prover {
     kit: PathBuf,
@@ -32,7 +36,8 @@ impl Prover {
         self.libraries.keys().cloned().collect()
     }
 
-    /// Checks the crate in `tree` over the store, and leaves all that the prover says in `log`. The exit status, where there is one.
+    /// Checks the crate in `tree` over the store, and leaves all that the prover says in `log`. The exit status, where there is one: none where
+    /// the prover was ended by a signal, or by this at its limit.
     pub fn check(&self, name: &str, tree: &Path, store: &Path, log: &Path) -> io::Result<Option<i32>> {
         let mut root = tree.join("src/main.rt");
         if !root.exists() {
@@ -51,8 +56,18 @@ impl Prover {
         rattle.arg("--antt-project").arg(self.kit.join("logic/antt-project.json"));
         rattle.arg("--logic-built").arg(self.own.join("logic-built"));
         rattle.arg("--incremental").arg(store);
-        let ended = rattle.stdin(Stdio::null()).stdout(said.try_clone()?).stderr(said).status()?;
-        Ok(ended.code())
+        let mut child = rattle.stdin(Stdio::null()).stdout(said.try_clone()?).stderr(said).spawn()?;
+        let began = Instant::now();
+        while began.elapsed() < LIMIT {
+            if let Some(ended) = child.try_wait()? {
+                return Ok(ended.code());
+            }
+            std::thread::sleep(Duration::from_millis(20));
+        }
+        child.kill()?;
+        child.wait()?;
+        fs::write(log, format!("the prover was not done after {} seconds", LIMIT.as_secs()))?;
+        Ok(None)
     }
 
     /// The library as `rt` proved it here, or as the kit has it.
