@@ -34,13 +34,14 @@ struct Refusal {
     words: String,
 }
 
-/// All refusals, in their order; a line that begins with two spaces goes on with the one before it.
+/// All refusals, in their order. A line that begins with two spaces goes on with the one before it; what follows is advice, and passed over.
 fn refusals(said: &str, tree: &str) -> Vec<Refusal> {
     let mut found: Vec<Refusal> = Vec::new();
     let mut inside = false;
     for line in said.lines() {
         if let (true, Some(more), Some(last)) = (inside, line.strip_prefix("  "), found.last_mut()) {
             last.words = format!("{} {}", last.words, more.trim());
+            inside = false;
             continue;
         }
         let begun = line.split_once(": error: ").or_else(|| {
@@ -60,7 +61,7 @@ fn refusals(said: &str, tree: &str) -> Vec<Refusal> {
 const NAMES_NOTHING: [&str; 7] = [
     "that can be named from here",
     "has no field `",
-    "is not in scope",
+    "is not in scope: add",
     "is not a constructor",
     "has too few arguments",
     "too many arguments",
@@ -102,6 +103,13 @@ mod tests {
     fn a_fact_is_an_error_in_a_proof() {
         assert_eq!(said("/copy/proofs/f/Proof.antt:5:1: error: `returns`: the two types differ"), refused("proofs/f/Proof.antt:5:1"));
         assert_eq!(said("/copy/proofs/Laws.antt:5:1: error: `low-bank`: the two types differ"), refused("proofs/Laws.antt:5:1"));
+    }
+
+    #[test]
+    fn advice_is_passed_over() {
+        let advice = "  and the other has `1`\n  `u` is not in scope here: name it\n  `a` has no field `b`";
+        let error = "/copy/proofs/Laws.antt:5:1: error: `low-bank`: the two types differ where one has `0`";
+        assert_eq!(said(&format!("{error}\n{advice}")), refused("proofs/Laws.antt:5:1"));
     }
 
     #[test]
