@@ -4,6 +4,7 @@
 use std::collections::BTreeMap;
 use std::fs::{self, File};
 use std::io;
+use std::os::unix::process::parent_id;
 use std::path::{Path, PathBuf};
 use std::process::{Command, Stdio};
 use std::time::{Duration, Instant};
@@ -16,6 +17,7 @@ pub struct Prover {
     own: PathBuf,
     rlibs: PathBuf,
     libraries: BTreeMap<String, Vec<String>>,
+    parent: u32,
 }
 
 impl Prover {
@@ -29,7 +31,13 @@ impl Prover {
             own: kit.join("on").join(std::env::consts::ARCH),
             rlibs: top.join("target/rlib"),
             libraries: listed(&fs::read_to_string(top.join("crates.txt"))?),
+            parent: parent_id(),
         })
+    }
+
+    /// Whether somebody still waits for an answer: who asked is there, and the folder for temporary files.
+    fn is_awaited(&self) -> bool {
+        parent_id() == self.parent && std::env::temp_dir().is_dir()
     }
 
     pub fn crates(&self) -> Vec<String> {
@@ -58,7 +66,7 @@ impl Prover {
         rattle.arg("--incremental").arg(store);
         let mut child = rattle.stdin(Stdio::null()).stdout(said.try_clone()?).stderr(said).spawn()?;
         let began = Instant::now();
-        while began.elapsed() < LIMIT {
+        while began.elapsed() < LIMIT && self.is_awaited() {
             if let Some(ended) = child.try_wait()? {
                 return Ok(ended.code());
             }
@@ -66,6 +74,9 @@ impl Prover {
         }
         child.kill()?;
         child.wait()?;
+        if !self.is_awaited() {
+            std::process::exit(1);
+        }
         fs::write(log, format!("the prover was not done after {} seconds", LIMIT.as_secs()))?;
         Ok(None)
     }
