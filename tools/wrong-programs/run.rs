@@ -94,6 +94,9 @@ impl Run {
         }
         let wanted = if named.is_empty() { self.with_folders(&all)? } else { named.to_vec() };
         let found: Vec<String> = wanted.into_iter().filter(|name| !self.edits(name).is_empty()).collect();
+        if let Some((name, label)) = found.iter().find_map(|name| Some((name, self.said_twice(name)?))) {
+            return Err(lost(format!("two wrong programs of {name} are called {label}")));
+        }
         if found.is_empty() && named.is_empty() {
             return Err(lost(format!("no crate has wrong programs in {}", self.folders.join(", "))));
         }
@@ -139,6 +142,13 @@ impl Run {
         }
         found.sort();
         found
+    }
+
+    /// A label that stands in two of the folders.
+    fn said_twice(&self, name: &str) -> Option<String> {
+        let mut labels: Vec<String> = self.edits(name).iter().filter_map(|edit| edit.rsplit('/').next().map(str::to_string)).collect();
+        labels.sort();
+        labels.windows(2).find(|two| two[0] == two[1]).map(|two| two[0].clone())
     }
 
     fn work(&self, queue: &Queue) {
