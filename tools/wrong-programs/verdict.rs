@@ -58,11 +58,10 @@ fn refusals(said: &str, tree: &str) -> Vec<Refusal> {
 }
 
 /// What the prover says of a text that names a thing that is not there, or takes one for what it is not.
-const NAMES_NOTHING: [&str; 7] = [
+const NAMES_NOTHING: [&str; 6] = [
     "that can be named from here",
     "has no field `",
     "is not in scope: add",
-    "is not a constructor",
     "has too few arguments",
     "too many arguments",
     "no module is found",
