@@ -9,9 +9,9 @@ use native.Mathlib.Omega.{arith}
 use lib.Dec.{eqb}
 use lib.ListN.{getD, length, take, drop, length-take, length-drop, drop-of-length-le}
 use lib.Seq.{drop-cons, take-suc, getD-drop, take-nil}
-use borrow.Author.Tests.{eq-eqb, ne-eqb}
+use borrow.Author.Tests.{eq-eqb, ne-eqb, lt-ltb, le-ltb}
 use Rattle.facts.specs.Choice.{pick, both}
-use Rattle.image.specs.Image.{byteAt, paddedLength, logo, standsAt, logoAt, isMulticart, sumFrom, checksumOf, upToZero, titleOf, TitleEnd}
+use Rattle.image.specs.Image.{byteAt, paddedLength, logo, standsAt, logoAt, isMulticart, sumFrom, checksumOf, upToZero, titleOf, titleStart, placeIn, TitleEnd}
 
 -- ---- the checksum
 
@@ -148,3 +148,11 @@ four-quarters s {n} m h e f g k p q r = rw (← m, eq-eqb n 0x100000 h, ← e, �
 pub padded-le : (n : ℕ) → n ≤ 8388608 → paddedLength n ≤ 8388608
 unfolding paddedLength
 padded-le n h = omega arith
+
+-- ---- where it stands
+
+pub start-early : (p : ℕ × ℕ) (n : ℕ) → n < 308 → placeIn p 0 ≡ placeIn p (titleStart n)
+start-early p n h = ap (λ (t : Bool). placeIn p (pick t 0 308)) (sym (lt-ltb n 308 h))
+
+pub start-late : (p : ℕ × ℕ) (n : ℕ) → 308 ≤ n → placeIn p 308 ≡ placeIn p (titleStart n)
+start-late p n h = ap (λ (t : Bool). placeIn p (pick t 0 308)) (sym (le-ltb n 308 h))

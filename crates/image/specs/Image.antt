@@ -3,7 +3,7 @@ use mathlib.Core.Bool.{Bool, true}
 use mathlib.Core.Path.{_≡_}
 use mathlib.Core.List.{List, [], _∷_}
 use Prim.Native.Nat.{ℕ, zero, suc, _+_, _-_, _*_, _/_, _%_, _≤_, max}
-use lib.Dec.{eqb}
+use lib.Dec.{eqb, ltb}
 use lib.ListN.{getD, length, take, drop}
 use Rattle.facts.specs.Choice.{pick, both}
 
@@ -53,6 +53,14 @@ upToZero (x ∷ l) = pick (eqb x 0) [] (x ∷ upToZero l)
 -- "bytes 0x134..=0x142 up to the first zero or the image's end"
 unfoldable pub titleOf : List ℕ → List ℕ
 titleOf s = upToZero (take 15 (drop 0x134 s))
+
+-- where the title begins in an image of n bytes; of one that ends before 0x134 the empty part is taken at its begin
+abbrev pub titleStart : ℕ → ℕ
+titleStart n = pick (ltb n 0x134) 0 0x134
+
+-- where byte k of a slice lies that begins at p, a block of memory and an offset in it: k further on in the same block
+abbrev pub placeIn : ℕ × ℕ → ℕ → ℕ × ℕ
+placeIn p k = (p .0, k + p .1)
 
 -- bit 7 of byte 0x143
 unfoldable pub isColour : List ℕ → Bool

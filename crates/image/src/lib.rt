@@ -3,7 +3,7 @@
 ghost use mathlib.Core.Path.{_≡_};
 ghost use Prim.Native.Nat.{_-_, _<_, _≤_};
 ghost use lib.ListN.{getD, length};
-ghost use Rattle.image.specs.Image.{byteAt, paddedLength, logo, logoAt, isMulticart, checksumOf, TitleEnd, titleOf, isColour};
+ghost use Rattle.image.specs.Image.{byteAt, paddedLength, logo, logoAt, isMulticart, checksumOf, TitleEnd, titleOf, titleStart, placeIn, isColour};
 use facts::both;
 
 const NINTENDO_LOGO_DATA: [u8; 48] = [
@@ -154,6 +154,7 @@ fn title_end(image: &[u8]) -> usize
 // The title: the part of the image from 0x134 on, up to the first zero, byte 0x142 or the image's end.
 pub fn title(image: &[u8]) -> &[u8]
     ensures { λ r. ⌜ now r ≡ titleOf (now (image .entry)) ⌝ }
+    ensures { λ r. ⌜ r .ptr ≡ placeIn (image .entry .ptr) (titleStart (length (now (image .entry)))) ⌝ }
 {
     let mut a: usize = 0x134;
     if image.len() < a {

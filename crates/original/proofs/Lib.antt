@@ -5,6 +5,8 @@ pub mod Mbc2Laws
 pub mod RtcLaws
 pub mod FollowsLaws
 pub mod CountLaws
+pub mod Mbc3Forms
+pub mod StepForms
 pub mod Mbc3Laws
 pub mod DomainLaws
 pub mod Mbc5Laws

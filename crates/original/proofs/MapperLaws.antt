@@ -52,6 +52,8 @@ use Rattle.original.specs.Place.{resultOf}
 use Rattle.original.specs.Domain.{Since, since, sinceAfter, within, inTime, Allowed}
 use Rattle.original.specs.Follows as follows
 use Rattle.original.proofs.MachineLaws.{index-ok, store-ok}
+use Rattle.original.proofs.StepForms.{mapperClocks}
+use Rattle.original.proofs.Mbc3Forms as forms3
 use Rattle.original.proofs.NoMapperLaws as none
 use Rattle.original.proofs.Mbc1Laws as mbc1
 use Rattle.original.proofs.Mbc2Laws as mbc2
@@ -91,7 +93,7 @@ rom0-same (Mbc2 m) o past {banks} {size} {area} f s addr h =
     ap (λ (x : original.Mapper). original.mapReadRom0 x addr) s ∙ mbc2.rom0-same banks (drop size area) m addr h
 rom0-same (Mbc3 m) o past {banks} {size} f (u, p, q) addr h =
     ap (λ (x : original.Mapper). original.mapReadRom0 x addr) p ∙ ap (λ (x : rust3.Mbc3). ok (rust3.mapReadRom0 x addr)) (q .is)
-    ∙ mbc3.rom-0 banks size m (q .rtc) addr h
+    ∙ forms3.rom-0 banks size m (q .rtc) addr h
 rom0-same (Mbc5 m) o past {banks} {size} f s addr h =
     ap (λ (x : original.Mapper). original.mapReadRom0 x addr) (s .1) ∙ mbc5.rom0-same banks size (s .0) m addr h
 
@@ -108,7 +110,7 @@ romx-same (Mbc2 m) o past {banks} {size} {area} f s addr l h =
     ap (λ (x : original.Mapper). original.mapReadRomx x addr) s ∙ mbc2.romx-same banks (drop size area) m addr (f .banked)
 romx-same (Mbc3 m) o past {banks} {size} f (u, p, q) addr l h =
     ap (λ (x : original.Mapper). original.mapReadRomx x addr) p ∙ ap (λ (x : rust3.Mbc3). rust3.mapReadRomx x addr) (q .is)
-    ∙ mbc3.rom-x banks size m (q .rtc) addr (f .banked)
+    ∙ forms3.rom-x banks size m (q .rtc) addr (f .banked)
 romx-same (Mbc5 m) o past {banks} {size} f s addr l h =
     ap (λ (x : original.Mapper). original.mapReadRomx x addr) (s .1) ∙ mbc5.romx-same banks size (s .0) m addr (f .banked)
 
@@ -192,14 +194,14 @@ module _ (p : RamAt) (size : ℕ) (area : List ℕ) (long : length area ≡ size
   whole : take size area ≡ area
   whole = take-all size area (omega (arith, long))
 
-  bytes-read : readAt (take size area) (resultOf p) ≡ ok (window.loaded area p)
+  pub bytes-read : readAt (take size area) (resultOf p) ≡ ok (window.loaded area p)
   bytes-read = ap (λ (x : List ℕ). readAt x (resultOf p)) whole ∙ go p inside
     where
       go : (q : RamAt) → Inside q size → readAt area (resultOf q) ≡ ok (window.loaded area q)
       go (at.At i) h = index-ok area i (omega (arith, long))
       go at.NotMapped h = refl
 
-  bytes-write : (byte : ℕ) → writeAt (take size area) (resultOf p) byte ≡ ok (take size (window.stored area p byte))
+  pub bytes-write : (byte : ℕ) → writeAt (take size area) (resultOf p) byte ≡ ok (take size (window.stored area p byte))
   bytes-write byte = ap (λ (x : List ℕ). writeAt x (resultOf p) byte) whole ∙ go p inside
     where
       go : (q : RamAt) → Inside q size → writeAt area (resultOf q) byte ≡ ok (take size (window.stored area q byte))
@@ -414,16 +416,12 @@ write-same (Mbc5 m) o past {banks} {size} {area} f s addr byte i l d =
 
 -- ---- clocks
 
-abbrev pub mapperClocks : ℕ → original.Mapper → Outcome original.Mapper
-mapperClocks zero o = ok o
-mapperClocks (suc n) o = bind (mapperClocks n o) original.clock
-
 -- where one changes nothing, none do
 still : (o : original.Mapper) → original.clock o ≡ ok o → (n : ℕ) → mapperClocks n o ≡ ok o
 still o e zero = refl
 still o e (suc n) = ap (λ (x : Outcome original.Mapper). bind x original.clock) (still o e n) ∙ e
 
-boxed-clocks : (u : rust3.Mbc3) (n : ℕ) → mapperClocks n (original.Mbc3 u) ≡ boxed original.Mbc3 (follows.clocksOn n u)
+pub boxed-clocks : (u : rust3.Mbc3) (n : ℕ) → mapperClocks n (original.Mbc3 u) ≡ boxed original.Mbc3 (follows.clocksOn n u)
 unfolding follows.clocksOn
 boxed-clocks u zero = refl
 boxed-clocks u (suc n) =

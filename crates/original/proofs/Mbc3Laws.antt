@@ -2,50 +2,32 @@
 -- domain stand as premises where they are used. Assumes nothing.
 use mathlib.Core.Bool.{Bool, true, false, not}
 use mathlib.Core.Path.{_≡_, refl, sym, ap, _∙_, subst}
-use Prim.Native.Nat.{ℕ, zero, suc, _+_, _-_, _*_, _/_, _%_, _<_, _≤_}
-use native.Mathlib.Nat.{mod-eq-of-lt}
+use Prim.Native.Nat.{ℕ, _+_, _-_, _/_, _%_, _<_, _≤_}
 use native.Mathlib.Omega.{arith}
-use lib.Bits.{bitAnd, and-mask}
-use lib.Dec.{eqb, ltb, leb}
+use lib.Bits.{bitAnd}
+use lib.Dec.{eqb, leb}
 use lib.ListN.{getD}
-use borrow.Author.Tests.{lt-ltb, le-ltb, le-leb, lt-leb, ne-eqb, eq-eqb, ltb-true, ltb-false, leb-true}
-use Rattle.facts.specs.Choice.{pick, both, either}
-use Rattle.facts.specs.Banking.{placeOf}
-use Rattle.facts.proofs.ChoiceLaws.{false≢true, both-parts}
+use borrow.Author.Tests.{lt-ltb, le-leb}
+use Rattle.facts.specs.Choice.{pick, both}
+use Rattle.facts.proofs.ChoiceLaws.{both-parts}
 use Rattle.clock_registers.specs.Access.{readings}
-use Rattle.clock.specs.Access.{startAt, visible, shownOf, writtenOf, writtenClock, latchedOf}
+use Rattle.clock.specs.Access.{startAt, visible, shownOf, writtenOf, writtenClock}
 use Rattle.clock.specs.Ticking.{ticks}
 use Rattle.clock.specs.declared.Clock.{Clock}
 use Rattle.clock.proofs.TickLaws.{ticks-add}
-use Rattle.banking.specs.Banks.{orOne, romPlace, bankedPlace}
-use Rattle.banking.specs.declared.RamAt.the-variants.{At, NotMapped}
 use Rattle.mbc3.specs.Registers as ours
 use Rattle.mbc3.specs.declared.Mbc3 as declared
 use Rattle.timer.specs.Advance as timer
-use Rattle.timer.specs.ClockWindow.{onClock, byteOr, windowRead, clockOr, windowWritten}
+use Rattle.timer.specs.ClockWindow.{onClock, windowRead, clockOr, windowWritten}
+use Rattle.timer.proofs.WindowLaws.{read-off}
 use Rattle.bus.specs.Run.{clocks}
-use Rattle.original.specs.Machine.{Outcome, ok, panic, bind, assert, sub, u64}
-use Rattle.original.specs.MappingResult as to
+use Rattle.original.specs.Machine.{Outcome, ok, bind, sub, u64}
 use Rattle.original.specs.MappingResult.{MappingResult}
-use Rattle.original.specs.Rtc.{RtcRegister, default, setLatch, clockSecondPart}
-use Rattle.original.specs.Mbc3.{
-  Mbc3,
-  new,
-  mapRam,
-  rtcRead,
-  rtcWrite,
-  init,
-  mapReadRom0,
-  mapReadRomx,
-  mapRamRead,
-  mapRamWrite,
-  writeBankControllerRegister,
-  clock,
-}
-use Rattle.original.specs.Domain.{Since, since, completed, onward}
-use Rattle.original.specs.Place.{resultOf}
+use Rattle.original.specs.Rtc.{RtcRegister, default, readRegister, writeRegister, setLatch}
+use Rattle.original.specs.Mbc3.{Mbc3, new, init, mapRamRead, mapRamWrite, writeBankControllerRegister, clock}
+use Rattle.original.specs.Domain.{Since, since, completed, latchWrite, onward}
 use Rattle.original.specs.Follows.{secondParts, clocksOn, Follows, Counts, Clocked, mbc3Of, Same, shownAt, storedAt}
-use Rattle.original.proofs.MachineLaws.{inside, outside, rom-banked, rom-first}
+use Rattle.original.proofs.Mbc3Forms.{shownWith, read-is, write-is, register-is, clocks-is, Kept, written-kept}
 use Rattle.original.proofs.CountLaws.{counted, counts-on, counts-after, clocks-follow}
 use Rattle.original.proofs.FollowsLaws.{start-follows, read-follows, latch-follows, ProperWrite, write-follows}
 
@@ -73,35 +55,6 @@ start-same banks size timer wall b s =
           record { rtc = default wall; is = refl; clocked = start-clocked timer wall; register = omega arith; few = omega arith };
     }
 
--- ---- places in the ROM
-
-module _ (banks size : ℕ) (m : declared.Mbc3) (r : RtcRegister) (at : ℕ) where
-  pub rom-0 : at < 0x4000 → ok (mapReadRom0 (mbc3Of banks size m r) at) ≡ ok (romPlace banks (ours.bank0 m) at)
-  unfolding mapReadRom0
-  rom-0 h = rom-first banks at h
-
-  pub rom-x : 0 < banks → mapReadRomx (mbc3Of banks size m r) at ≡ ok (romPlace banks (ours.bankX m) at)
-  unfolding mapReadRomx
-  rom-x pos = rom-banked (ours.bankX m) banks at pos
-
-  -- ---- in RAM: no whole bank, which 2 KiB is not, is tested first
-
-  pub ram-place : mapRam (mbc3Of banks size m r) at ≡ ok (resultOf (bankedPlace size (m .ram) at))
-  unfolding mapRam bankedPlace placeOf
-  ram-place = go (ltb size 0x2000) refl
-    where
-      go : (t : Bool) → ltb size 0x2000 ≡ t
-          → mapRam (mbc3Of banks size m r) at ≡ ok
-          (resultOf (pick t NotMapped (At (m .ram % (size / 0x2000) * 0x2000 + at % 0x2000))))
-      go true e =
-          let h = ltb-true size 0x2000 e in
-          let z : size / 0x2000 ≡ 0 = omega arith in
-          rw (eq-eqb (size / 0x2000) 0 z) refl
-      go false e =
-          let h = ltb-false size 0x2000 e in
-          let z : eqb (size / 0x2000) 0 ≡ false = ne-eqb (size / 0x2000) 0 (λ q. omega arith) in
-          rw (z, ne-eqb size 0x800 (λ q. omega arith), and-mask at 13) refl
-
 -- ---- a read of the RAM window
 
 abbrev pub mapped : Mbc3 → MappingResult → Outcome (Mbc3 × MappingResult)
@@ -114,55 +67,62 @@ pub record Mapped (banks size : ℕ) (s : Since) (m : declared.Mbc3) (o : Outcom
   pub is : o ≡ mapped next x
   pub same : Same banks size s m next
 
--- the byte of a register that there is
-shown-there : (m : declared.Mbc3) → m .register < 5
-    → byteOr (shownOf (m .clock) (m .register)) ≡ getD (readings (visible (m .clock))) (m .register) 0
-unfolding shownOf
-shown-there m h = rw (lt-ltb (m .register) 5 h) refl
-
--- after an unlatched clock read nothing is due
-abbrev pub afterRead : Since → declared.Mbc3 → Since
-afterRead s m = pick (both (onClock m) (not (m .clock .latched))) (since 0 (s .idle)) s
-
 -- a call that gives no more than the next state
 pub record Stepped (banks size : ℕ) (s : Since) (m : declared.Mbc3) (o : Outcome Mbc3) : Type 0 where
   pub next : Mbc3
   pub is : o ≡ ok next
   pub same : Same banks size s m next
 
+-- after an unlatched clock read nothing is due
+abbrev pub afterRead : Since → declared.Mbc3 → Since
+afterRead s m = pick (both (onClock m) (not (m .clock .latched))) (since 0 (s .idle)) s
+
+on-timer : (m : declared.Mbc3) → onClock m ≡ true → m .timer ≡ true
+on-timer m e = both-parts (m .timer) (both (m .enabled) (not (m .memory))) e .0
+
 module _ (banks size : ℕ) (s : Since) (m : declared.Mbc3) (u : Mbc3) (same : Same banks size s m u) where
   -- with a timer the RTC follows our clock
   followed : m .timer ≡ true → Follows (s .due) (m .clock) (same .rtc)
   followed t = subst (λ (b : Bool). Clocked b s (m .clock) (same .rtc)) t (same .clocked)
 
-  rtc-read : m .timer ≡ true
-      → Mapped banks size (pick (not (m .clock .latched)) (since 0 (s .idle)) s) m
-      (bind (rtcRead (mbc3Of banks size m (same .rtc))) (λ x. mapped (x .0) (to.Value (x .1))))
-      (to.Value (byteOr (shownOf (m .clock) (m .register))))
-  unfolding rtcRead
-  rtc-read t =
-      let x = read-follows (s .due) (m .clock) (same .rtc) (m .register) (same .few) (same .register) (followed t) in
-      let put : RtcRegister × ℕ → Outcome (Mbc3 × ℕ) = λ y. ok (mbc3Of banks size m (y .0), y .1) in
+  -- and what follows n's clock is beside n
+  beside : (s′ : Since) (n : declared.Mbc3) (r : RtcRegister) → n .timer ≡ true → n .register < 5 → s′ .due ≤ 1
+      → Follows (s′ .due) (n .clock) r → Same banks size s′ n (mbc3Of banks size n r)
+  beside s′ n r t l few f =
       record {
-        next = mbc3Of banks size m (x .next);
-        is =
-            ap (λ (o : Outcome (RtcRegister × ℕ)). bind (bind o put) (λ y. mapped (y .0) (to.Value (y .1)))) (x .is)
-            ∙ ap (λ (b : ℕ). mapped (mbc3Of banks size m (x .next)) (to.Value b)) (sym (shown-there m (same .register)));
-        same =
-            record {
-              rtc = x .next;
-              is = refl;
-              clocked =
-                  subst (λ (b : Bool). Clocked b (pick (not (m .clock .latched)) (since 0 (s .idle)) s) (m .clock) (x .next))
-                  (sym t)
-                  (due-by (m .clock .latched) (x .follows));
-              register = same .register;
-              few = few-by (m .clock .latched);
-            };
+        rtc = r;
+        is = refl;
+        clocked = subst (λ (b : Bool). Clocked b s′ (n .clock) r) (sym t) f;
+        register = l;
+        few = few;
       }
+
+  -- the same RTC beside a mapper with the same clock
+  stays : (n : declared.Mbc3) → n .timer ≡ m .timer → n .clock ≡ m .clock → n .register < 5
+      → Same banks size s n (mbc3Of banks size n (same .rtc))
+  stays n t c l =
+      record {
+        rtc = same .rtc;
+        is = refl;
+        clocked =
+            subst (λ (b : Bool). Clocked b s (n .clock) (same .rtc)) (sym t)
+            (subst (λ (x : Clock). Clocked (m .timer) s x (same .rtc)) (sym c) (same .clocked));
+        register = l;
+        few = same .few;
+      }
+
+  -- the byte of a register that there is
+  shown-there : onClock m ≡ true → getD (readings (visible (m .clock))) (m .register) 0 ≡ windowRead m
+  unfolding windowRead shownOf
+  shown-there e = rw (e, lt-ltb (m .register) 5 (same .register)) refl
+
+  pub read-mapped : (at : ℕ) → Mapped banks size (afterRead s m) m (mapRamRead u at) (shownAt m size at)
+  read-mapped at =
+      subst (λ (o : Outcome (Mbc3 × MappingResult)). Mapped banks size (afterRead s m) m o (shownAt m size at))
+      (sym (ap (λ (v : Mbc3). mapRamRead v at) (same .is) ∙ read-is banks size m (same .rtc) at)) (go (onClock m) refl)
     where
-      due-by : {c : Clock} {r : RtcRegister} (b : Bool) → Follows (pick b (s .due) 0) c r → Follows
-          (pick (not b) (since 0 (s .idle)) s .due) c r
+      due-by : {c : Clock} {r : RtcRegister} (b : Bool) → Follows (pick b (s .due) 0) c r
+          → Follows (pick (not b) (since 0 (s .idle)) s .due) c r
       due-by true f = f
       due-by false f = f
 
@@ -170,48 +130,29 @@ module _ (banks size : ℕ) (s : Since) (m : declared.Mbc3) (u : Mbc3) (same : S
       few-by true = same .few
       few-by false = omega arith
 
-  -- the Rust's MBC3 as it is
-  self : Mbc3
-  self = mbc3Of banks size m (same .rtc)
-
-  stays : {o : Outcome (Mbc3 × MappingResult)} {x : MappingResult} → o ≡ mapped self x → Mapped banks size s m o x
-  unfolding self
-  stays e =
-      record {
-        next = mbc3Of banks size m (same .rtc);
-        is = e;
-        same = record { rtc = same .rtc; is = refl; clocked = same .clocked; register = same .register; few = same .few };
-      }
-
-  ram-mapped : (at : ℕ) → bind (mapRam self at) (mapped self) ≡ mapped self (resultOf (bankedPlace size (m .ram) at))
-  unfolding self
-  ram-mapped at = ap (λ (o : Outcome MappingResult). bind o (mapped (mbc3Of banks size m (same .rtc))))
-      (ram-place banks size m (same .rtc) at)
-
-  read-by : (at : ℕ) (t e f : Bool) → m .timer ≡ t
-      → Mapped banks size (pick (both (both t (both e (not f))) (not (m .clock .latched))) (since 0 (s .idle)) s) m
-      (pick e
-      (pick f (bind (mapRam self at) (mapped self))
-      (pick t (bind (rtcRead self) (λ x. mapped (x .0) (to.Value (x .1)))) (mapped self to.NotMapped)))
-      (mapped self to.NotMapped))
-      (pick f (resultOf (pick (both e f) (bankedPlace size (m .ram) at) NotMapped))
-      (pick (both t (both e (not f)))
-      (to.Value (pick (both t (both e (not f))) (byteOr (shownOf (m .clock) (m .register))) 0xFF)) to.NotMapped))
-  unfolding self
-  read-by at true true true q = stays (ram-mapped at)
-  read-by at false true true q = stays (ram-mapped at)
-  read-by at true true false q = rtc-read q
-  read-by at false true false q = stays refl
-  read-by at true false true q = stays refl
-  read-by at true false false q = stays refl
-  read-by at false false true q = stays refl
-  read-by at false false false q = stays refl
-
-  pub read-mapped : (at : ℕ) → Mapped banks size (afterRead s m) m (mapRamRead u at) (shownAt m size at)
-  unfolding mapRamRead ours.ramAt windowRead self
-  read-mapped at =
-      subst (λ (v : Mbc3). Mapped banks size (afterRead s m) m (mapRamRead v at) (shownAt m size at)) (sym (same .is))
-      (read-by at (m .timer) (m .enabled) (m .memory) refl)
+      go : (t : Bool) → onClock m ≡ t
+          → Mapped banks size (pick (both t (not (m .clock .latched))) (since 0 (s .idle)) s) m
+          (bind (pick t (readRegister (same .rtc) (m .register)) (ok (same .rtc, 0xFF)))
+          (λ x. mapped (mbc3Of banks size m (x .0)) (shownWith (x .1) m size at))) (shownAt m size at)
+      go true e =
+          let t = on-timer m e in
+          let x = read-follows (s .due) (m .clock) (same .rtc) (m .register) (same .few) (same .register) (followed t) in
+          record {
+            next = mbc3Of banks size m (x .next);
+            is =
+                ap (λ (o : Outcome (RtcRegister × ℕ)). bind o
+                (λ y. mapped (mbc3Of banks size m (y .0)) (shownWith (y .1) m size at))) (x .is)
+                ∙ ap (λ (b : ℕ). mapped (mbc3Of banks size m (x .next)) (shownWith b m size at)) (shown-there e);
+            same =
+                beside (pick (not (m .clock .latched)) (since 0 (s .idle)) s) m (x .next) t (same .register)
+                (few-by (m .clock .latched)) (due-by (m .clock .latched) (x .follows));
+          }
+      go false e =
+          record {
+            next = mbc3Of banks size m (same .rtc);
+            is = ap (λ (b : ℕ). mapped (mbc3Of banks size m (same .rtc)) (shownWith b m size at)) (read-off m e);
+            same = stays m refl refl (same .register);
+          }
 
   -- ---- a write to the RAM window
 
@@ -221,194 +162,82 @@ module _ (banks size : ℕ) (s : Since) (m : declared.Mbc3) (u : Mbc3) (same : S
     pub proper : ProperWrite (m .register) byte
     pub clear : writtenClock (m .clock) (m .register) byte .running .carry ≡ false
 
-  written-there : (byte : ℕ) → m .register < 5
+  written-there : (byte : ℕ)
       → clockOr m (writtenOf (m .clock) (m .register) byte) ≡ ours.withClock m (writtenClock (m .clock) (m .register) byte)
   unfolding writtenOf
-  written-there byte h = rw (lt-ltb (m .register) 5 h) refl
-
-  rtc-write : (byte : ℕ) → m .timer ≡ true → byte < 256 → ClockWrite byte
-      → Mapped banks size s (clockOr m (writtenOf (m .clock) (m .register) byte))
-      (bind (rtcWrite self byte) (λ v. mapped v to.NotMapped)) to.NotMapped
-  unfolding rtcWrite self
-  rtc-write byte t l w =
-      let c = writtenClock (m .clock) (m .register) byte in
-      let follows = subst (λ (k : ℕ). Follows k (m .clock) (same .rtc)) (w .none) (followed t) in
-      let x = write-follows (m .clock) (same .rtc) (m .register) byte (same .register) l (w .proper) (w .clear) follows in
-      subst (λ (n : declared.Mbc3). Mapped banks size s n
-      (bind (rtcWrite (mbc3Of banks size m (same .rtc)) byte) (λ v. mapped v to.NotMapped)) to.NotMapped)
-      (sym (written-there byte (same .register)))
-      (record {
-        next = mbc3Of banks size m (x .next);
-        is =
-            ap (λ (o : Outcome RtcRegister). bind (bind o (λ r. ok (mbc3Of banks size m r))) (λ v. mapped v to.NotMapped))
-            (x .is);
-        same =
-            record {
-              rtc = x .next;
-              is = refl;
-              clocked =
-                  subst (λ (b : Bool). Clocked b s c (x .next)) (sym t)
-                  (subst (λ (k : ℕ). Follows k c (x .next)) (sym (w .none)) (x .follows));
-              register = same .register;
-              few = same .few;
-            };
-      })
-
-  write-by : (at byte : ℕ) (t e f : Bool) → m .timer ≡ t → byte < 256 → (both t (both e (not f)) ≡ true → ClockWrite byte)
-      → Mapped banks size s (pick (both t (both e (not f))) (clockOr m (writtenOf (m .clock) (m .register) byte)) m)
-      (pick e
-      (pick f (bind (mapRam self at) (mapped self)) (bind (pick t (rtcWrite self byte) (ok self)) (λ v. mapped v to.NotMapped)))
-      (mapped self to.NotMapped))
-      (pick f (resultOf (pick (both e f) (bankedPlace size (m .ram) at) NotMapped)) to.NotMapped)
-  unfolding self
-  write-by at byte true true true q l w = stays (ram-mapped at)
-  write-by at byte false true true q l w = stays (ram-mapped at)
-  write-by at byte true true false q l w = rtc-write byte q l (w refl)
-  write-by at byte false true false q l w = stays refl
-  write-by at byte true false true q l w = stays refl
-  write-by at byte true false false q l w = stays refl
-  write-by at byte false false true q l w = stays refl
-  write-by at byte false false false q l w = stays refl
+  written-there byte = rw (lt-ltb (m .register) 5 (same .register)) refl
 
   pub write-mapped : (at byte : ℕ) → byte < 256 → (onClock m ≡ true → ClockWrite byte)
       → Mapped banks size s (windowWritten m byte) (mapRamWrite u at byte) (storedAt m size at)
-  unfolding mapRamWrite ours.ramAt windowWritten self
+  unfolding windowWritten
   write-mapped at byte l w =
-      subst (λ (v : Mbc3). Mapped banks size s (windowWritten m byte) (mapRamWrite v at byte) (storedAt m size at))
-      (sym (same .is))
-      (write-by at byte (m .timer) (m .enabled) (m .memory) refl l w)
-
-  -- ---- a register write
-
-  -- the same RTC beside a mapper with the same clock
-  beside : {o : Outcome Mbc3} (n : declared.Mbc3) → o ≡ ok (mbc3Of banks size n (same .rtc)) → Clocked (n .timer) s (n .clock)
-      (same .rtc)
-      → n .register < 5 → Stepped banks size s n o
-  beside n e k l =
-      record {
-        next = mbc3Of banks size n (same .rtc);
-        is = e;
-        same = record { rtc = same .rtc; is = refl; clocked = k; register = l; few = same .few };
-      }
-
-  -- the selection, which 16 does not refuse
-  selection : (byte : ℕ) → Outcome Mbc3
-  selection byte =
-      let byte′ = bitAnd byte 0xF in
-      assert (either (leb byte′ 3) (both (leb 0x8 byte′) (leb byte′ 0xC)))
-      (pick (leb byte′ 3)
-      (ok (mbc3Of banks size (ours.mbc3 (m .timer) (m .enabled) (m .bank) true (bitAnd byte′ 3) (m .register) (m .clock))
-      (same .rtc)))
-      (bind (sub byte′ 0x8) (λ n.
-      ok (mbc3Of banks size (ours.mbc3 (m .timer) (m .enabled) (m .bank) false (m .ram) n (m .clock)) (same .rtc)))))
-
-  selects : (byte : ℕ) → ours.selectable byte ≡ true → Stepped banks size s (ours.selected m byte) (selection byte)
-  unfolding selection ours.selected ours.selectable
-  selects byte h = go (ours.forRam byte) (ours.forClock byte) refl refl h
+      subst (λ (o : Outcome (Mbc3 × MappingResult)). Mapped banks size s (windowWritten m byte) o (storedAt m size at))
+      (sym (ap (λ (v : Mbc3). mapRamWrite v at byte) (same .is) ∙ write-is banks size m (same .rtc) at byte))
+      (go (onClock m) refl)
     where
-      b : ℕ
-      b = bitAnd byte 0xF
+      go : (t : Bool) → onClock m ≡ t
+          → Mapped banks size s (pick t (clockOr m (writtenOf (m .clock) (m .register) byte)) m)
+          (bind (pick t (writeRegister (same .rtc) (m .register) byte) (ok (same .rtc)))
+          (λ x. mapped (mbc3Of banks size m x) (storedAt m size at))) (storedAt m size at)
+      go true e =
+          let t = on-timer m e in
+          let k = w e in
+          let n = ours.withClock m (writtenClock (m .clock) (m .register) byte) in
+          let f = subst (λ (d : ℕ). Follows d (m .clock) (same .rtc)) (k .none) (followed t) in
+          let x = write-follows (m .clock) (same .rtc) (m .register) byte (same .register) l (k .proper) (k .clear) f in
+          subst (λ (y : declared.Mbc3). Mapped banks size s y
+          (bind (writeRegister (same .rtc) (m .register) byte) (λ x. mapped (mbc3Of banks size m x) (storedAt m size at)))
+          (storedAt m size at))
+          (sym (written-there byte))
+          (record {
+            next = mbc3Of banks size m (x .next);
+            is = ap (λ (o : Outcome RtcRegister). bind o (λ y. mapped (mbc3Of banks size m y) (storedAt m size at))) (x .is);
+            same =
+                beside s n (x .next) t (same .register) (same .few)
+                (subst (λ (d : ℕ). Follows d (n .clock) (x .next)) (sym (k .none)) (x .follows));
+          })
+      go false e =
+          record { next = mbc3Of banks size m (same .rtc); is = refl; same = stays m refl refl (same .register) }
 
-      mask : b ≡ byte % 16
-      mask = and-mask byte 4
+  -- ---- a register write, of a selection that 16 does not refuse, and a latch with nothing due
 
-      go : (t c : Bool) → ours.forRam byte ≡ t → ours.forClock byte ≡ c → either t c ≡ true
-          → Stepped banks size s
-          (pick t (ours.mbc3 (m .timer) (m .enabled) (m .bank) true (byte % 16) (m .register) (m .clock))
-          (pick c (ours.mbc3 (m .timer) (m .enabled) (m .bank) false (m .ram) (byte % 16 - 8) (m .clock)) m))
-          (selection byte)
-      go true c p q e =
-          let low = leb-true (byte % 16) 3 p in
-          let four : bitAnd (byte % 16) 3 ≡ byte % 16 = and-mask (byte % 16) 2 ∙ mod-eq-of-lt (omega arith) in
-          beside (ours.mbc3 (m .timer) (m .enabled) (m .bank) true (byte % 16) (m .register) (m .clock))
-          (rw (mask, p, four) refl) (same .clocked) (same .register)
-      go false true p q e =
-          let parts = both-parts (leb 8 (byte % 16)) (leb (byte % 16) 0xC) q in
-          let low = leb-true 8 (byte % 16) (parts .0) in
-          let high = leb-true (byte % 16) 0xC (parts .1) in
-          beside (ours.mbc3 (m .timer) (m .enabled) (m .bank) false (m .ram) (byte % 16 - 8) (m .clock))
-          (rw (mask, p, parts .0, parts .1, le-ltb (byte % 16) 8 low) refl) (same .clocked) (omega arith)
-      go false false p q e = false≢true e
-
-  -- the latch, with nothing due
-  latches : (byte : ℕ) (t : Bool) → m .timer ≡ t → (t ≡ true → s .due ≡ 0)
-      → Stepped banks size s (pick t (ours.withClock m (latchedOf (m .clock) byte)) m)
-      (pick t (bind (setLatch (same .rtc) (eqb (bitAnd byte 1) 1)) (λ r. ok (mbc3Of banks size m r)))
-      (ok (mbc3Of banks size m (same .rtc))))
-  latches byte false q none = beside m refl (same .clocked) (same .register)
-  latches byte true q none =
-      let c = latchedOf (m .clock) byte in
-      let follows = subst (λ (k : ℕ). Follows k (m .clock) (same .rtc)) (none refl) (followed q) in
-      let x = latch-follows (m .clock) (same .rtc) byte follows in
-      record {
-        next = mbc3Of banks size m (x .next);
-        is = ap (λ (o : Outcome RtcRegister). bind o (λ r. ok (mbc3Of banks size m r))) (x .is);
-        same =
-            record {
-              rtc = x .next;
-              is = refl;
-              clocked =
-                  subst (λ (b : Bool). Clocked b s c (x .next)) (sym q)
-                  (subst (λ (k : ℕ). Follows k c (x .next)) (sym (none refl)) (x .follows));
-              register = same .register;
-              few = same .few;
-            };
-      }
-
-  -- by the address range
-  write-range : (at byte : ℕ)
-      (a b c : Bool) → ltb at 0x2000 ≡ a → ltb at 0x4000 ≡ b → ltb at 0x6000 ≡ c → at < 0x8000 → byte < 256
+  pub write-register : (at byte : ℕ) → at < 0x8000 → byte < 256
       → (both (leb 0x4000 at) (leb at 0x5FFF) ≡ true → ours.selectable byte ≡ true)
-      → (both (leb 0x6000 at) (leb at 0x7FFF) ≡ true → m .timer ≡ true → s .due ≡ 0)
-      → Stepped banks size s
-      (pick a (ours.mbc3 (m .timer) (eqb (byte % 16) 0xA) (m .bank) (m .memory) (m .ram) (m .register) (m .clock))
-      (pick b (ours.mbc3 (m .timer) (m .enabled) (orOne byte) (m .memory) (m .ram) (m .register) (m .clock))
-      (pick c (ours.selected m byte) (ours.latched m byte))))
-      (writeBankControllerRegister (mbc3Of banks size m (same .rtc)) at byte)
-  unfolding writeBankControllerRegister orOne selection ours.latched
-  write-range at byte true b c p q r h o sel lat =
-      let l = ltb-true at 0x2000 p in
-      beside (ours.mbc3 (m .timer) (eqb (byte % 16) 0xA) (m .bank) (m .memory) (m .ram) (m .register) (m .clock))
-      (rw (le-leb at 0x1FFF (omega arith), and-mask byte 4) refl) (same .clocked) (same .register)
-  write-range at byte false true c p q r h o sel lat =
-      let l = ltb-false at 0x2000 p in
-      let k = ltb-true at 0x4000 q in
-      let w : byte % 65536 ≡ byte = omega arith in
-      beside (ours.mbc3 (m .timer) (m .enabled) (orOne byte) (m .memory) (m .ram) (m .register) (m .clock))
-      (rw (lt-leb at 0x1FFF (omega arith), inside 0x2000 0x3FFF at l (omega arith), w) refl) (same .clocked) (same .register)
-  write-range at byte false false true p q r h o sel lat =
-      let l = ltb-false at 0x4000 q in
-      let k = ltb-true at 0x6000 r in
-      let i = inside 0x4000 0x5FFF at l (omega arith) in
-      rw (lt-leb at 0x1FFF (omega arith), outside 0x2000 0x3FFF at (omega arith), i) (selects byte (sel i))
-  write-range at byte false false false p q r h o sel lat =
-      let l = ltb-false at 0x6000 r in
-      let i = inside 0x6000 0x7FFF at l (omega arith) in
-      rw (lt-leb at 0x1FFF (omega arith), outside 0x2000 0x3FFF at (omega arith), outside 0x4000 0x5FFF at (omega arith), i)
-      (latches byte (m .timer) refl (lat i))
-
-  pub write-register : (at byte : ℕ) → at < 0x8000 → byte < 256 →
-      (both (leb 0x4000 at) (leb at 0x5FFF) ≡ true → ours.selectable byte ≡ true)
-      → (both (leb 0x6000 at) (leb at 0x7FFF) ≡ true → m .timer ≡ true → s .due ≡ 0)
+      → (latchWrite at ≡ true → m .timer ≡ true → s .due ≡ 0)
       → Stepped banks size s (ours.written m at byte) (writeBankControllerRegister u at byte)
-  unfolding ours.written
   write-register at byte h o sel lat =
-      rw (same .is, lt-ltb at 0x8000 h)
-      (write-range at byte (ltb at 0x2000) (ltb at 0x4000) (ltb at 0x6000) refl refl refl h o sel lat)
+      subst (Stepped banks size s (ours.written m at byte))
+      (sym
+      (ap (λ (v : Mbc3). writeBankControllerRegister v at byte) (same .is)
+      ∙ register-is banks size m (same .rtc) at byte h o sel))
+      (go (both (latchWrite at) (m .timer)) refl (written-kept m at byte h))
+    where
+      go : (t : Bool) → both (latchWrite at) (m .timer) ≡ t → Kept m (ours.written m at byte) t byte
+          → Stepped banks size s (ours.written m at byte)
+          (bind (pick t (setLatch (same .rtc) (eqb (bitAnd byte 1) 1)) (ok (same .rtc)))
+          (λ x. ok (mbc3Of banks size (ours.written m at byte) x)))
+      go true e k =
+          let n = ours.written m at byte in
+          let p = both-parts (latchWrite at) (m .timer) e in
+          let none = lat (p .0) (p .1) in
+          let f = subst (λ (d : ℕ). Follows d (m .clock) (same .rtc)) none (followed (p .1)) in
+          let x = latch-follows (m .clock) (same .rtc) byte f in
+          record {
+            next = mbc3Of banks size n (x .next);
+            is = ap (λ (y : Outcome RtcRegister). bind y (λ z. ok (mbc3Of banks size n z))) (x .is);
+            same =
+                beside s n (x .next) (k .timer ∙ p .1) (k .register (same .register)) (same .few)
+                (subst (λ (d : ℕ). Follows d (n .clock) (x .next)) (sym none)
+                (subst (λ (c : Clock). Follows 0 c (x .next)) (sym (k .clock)) (x .follows)));
+          }
+      go false e k =
+          record {
+            next = mbc3Of banks size (ours.written m at byte) (same .rtc);
+            is = refl;
+            same = stays (ours.written m at byte) (k .timer) (k .clock) (k .register (same .register));
+          }
 
   -- ---- clocks
-
-  clocks-rtc : (n : ℕ) (r : RtcRegister) → clocksOn n (mbc3Of banks size m r) ≡ bind (secondParts n r)
-      (λ x. ok (mbc3Of banks size m x))
-  unfolding clocksOn secondParts clock
-  clocks-rtc zero r = refl
-  clocks-rtc (suc n) r = ap (λ (o : Outcome Mbc3). bind o clock) (clocks-rtc n r) ∙ go (secondParts n r)
-    where
-      go : (o : Outcome RtcRegister)
-          → bind (bind o (λ x. ok (mbc3Of banks size m x))) clock ≡ bind (bind o clockSecondPart)
-          (λ x. ok (mbc3Of banks size m x))
-      go (ok x) = refl
-      go panic = refl
 
   -- what the domain asks of n clocks on a timer: no carry after them, no second while frozen, and no more than one due
   pub record Clocks (n : ℕ) : Type 0 where
@@ -428,14 +257,8 @@ module _ (banks size : ℕ) (s : Since) (m : declared.Mbc3) (u : Mbc3) (same : S
         next = mbc3Of banks size m (x .next);
         is = ap (λ (o : Outcome RtcRegister). bind o (λ r. ok (mbc3Of banks size m r))) (x .is);
         same =
-            record {
-              rtc = x .next;
-              is = refl;
-              clocked = subst (λ (b : Bool). Clocked b (since (s .due + completed m n) (s .idle)) c (x .next)) (sym q)
-                  (x .follows);
-              register = same .register;
-              few = k .few;
-            };
+            beside (since (s .due + completed m n) (s .idle)) (ours.withClock m c) (x .next) q (same .register) (k .few)
+            (x .follows);
       }
   clocks-by n false q l d =
       let c = ticks (s .idle) (m .clock) in
@@ -462,4 +285,4 @@ module _ (banks size : ℕ) (s : Since) (m : declared.Mbc3) (u : Mbc3) (same : S
       → Stepped banks size (onward m s (clocks n)) (timer.clocksOn m n) (clocksOn n u)
   unfolding timer.clocksOn
   clocks-same n l d =
-      rw (same .is, clocks-rtc n (same .rtc)) (clocks-by n (m .timer) refl l d)
+      rw (same .is, clocks-is banks size m (same .rtc) n) (clocks-by n (m .timer) refl l d)

@@ -3,21 +3,19 @@
 use mathlib.Core.Bool.{Bool, true, false, not}
 use mathlib.Core.List.{List, [], _∷_, _++_}
 use mathlib.Core.Path.{_≡_, refl, sym, ap, _∙_, subst}
-use Prim.Native.Nat.{ℕ, zero, suc, _+_, _*_, _%_, _<_, _≤_}
+use Prim.Native.Nat.{ℕ, _+_, _*_, _%_, _<_, _≤_}
 use native.Mathlib.Omega.{arith}
 use lib.Dec.{eqb}
-use lib.ListN.{length, getD, take, drop, take-append-drop}
-use borrow.Author.Tests.{eqb-true, eq-eqb, leb-true}
+use lib.ListN.{length, take, drop, take-append-drop}
+use borrow.Author.Tests.{eq-eqb, leb-true}
 use Rattle.facts.specs.Choice.{pick, both, either}
 use Rattle.facts.specs.Listed.{oneOf}
 use Rattle.facts.proofs.ChoiceLaws.{both-true, both-parts, not-true, pick-has}
 use Rattle.facts.proofs.ListLaws.{part-set}
 use Rattle.bytes_le.specs.Little.{Octets}
 use Rattle.bytes_le.proofs.OctetLaws.{octets-set}
-use Rattle.banking.specs.Banks.{romPlace}
 use Rattle.banking.specs.declared.RamAt.the-variants as at
-use Rattle.banking.proofs.Laws.{rom-inside}
-use Rattle.image.specs.Image.{byteAt, paddedLength}
+use Rattle.image.specs.Image.{paddedLength}
 use Rattle.header.specs.Size.{ramSizes}
 use Rattle.mbc2.specs.Registers as our2
 use Rattle.mbc2.specs.declared.Mbc2 as declared2
@@ -30,7 +28,7 @@ use Rattle.window.specs.declared.Way.the-variants.{Bytes, Half, Timer}
 use Rattle.cartridge.specs.Fit.{bankCounts, fitBoard, fitCart}
 use Rattle.cartridge.specs.With.{withMapper}
 use Rattle.cartridge.specs.declared.Cartridge as our
-use Rattle.cartridge.proofs.Laws.{fit-board, fit-registers, fit-banks, fit-padded}
+use Rattle.cartridge.proofs.Laws.{fit-board, fit-registers, fit-banks}
 use Rattle.access.specs.Verdict.{inRom, inRam, verdictOf}
 use Rattle.access.specs.declared.BusRefusal.the-variants.{BadAddress}
 use Rattle.access.specs.declared.Verdict.{Verdict}
@@ -43,18 +41,16 @@ use Rattle.bus.specs.Run.{Access, Machine, afterRead, afterWrite, afterClocks, 
 use Rattle.bus.specs.declared.Advanced.the-variants as advanced
 use Rattle.runs.specs.Calls.{Ready, Octet}
 use Rattle.runs.specs.Calls as calls
-use Rattle.runs.proofs.ImageLaws.{padded-length, padded-byte}
 use Rattle.runs.proofs.RunLaws.{run-ready}
-use Rattle.original.specs.Machine.{Outcome, ok, panic, bind, index}
-use Rattle.original.specs.MappingResult.{Mapped, mapped}
-use Rattle.original.specs.Mapper as original
+use Rattle.original.specs.Machine.{Outcome, ok, bind}
 use Rattle.original.specs.Cartridge as cartridge
-use Rattle.original.specs.Cartridge.{Cartridge, Read, readAt, writeAt, readRom0, readRomx, writeToBankController, readRam, writeRam, clockMapper}
+use Rattle.original.specs.Cartridge.{Cartridge, readAt, writeAt}
 use Rattle.original.specs.Same.{Same, Fit}
-use Rattle.original.specs.Step.{Left, left, clocksOf, originalStep, Ran, originalRun}
+use Rattle.original.specs.Step.{Left, left, originalStep, Ran, originalRun}
 use Rattle.original.specs.Domain.{Since, sinceAfter, Allowed, InDomain}
-use Rattle.original.proofs.MachineLaws.{index-ok, inside, outside, arm-cases}
-use Rattle.original.proofs.MapperLaws.{rom0-same, romx-same, register-same, read-same, write-same, mapperClocks, clocks-same, past-write, past-rom, early}
+use Rattle.original.proofs.MachineLaws.{inside}
+use Rattle.original.proofs.StepForms as forms
+use Rattle.original.proofs.MapperLaws.{rom0-same, romx-same, register-same, read-same, write-same, clocks-same, past-write, past-rom, early}
 
 -- ---- bytes stay bytes
 
@@ -74,7 +70,7 @@ way-octets (Bytes at.NotMapped) size area addr byte o h = o
 way-octets (Half m) size area addr byte o h = half-octets m size area addr byte o
 way-octets (Timer m) size area addr byte o h = o
 
-window-octets : (m : Mapper) (size : ℕ) (area : List ℕ) (addr byte : ℕ) → Octets area → byte < 256
+pub window-octets : (m : Mapper) (size : ℕ) (area : List ℕ) (addr byte : ℕ) → Octets area → byte < 256
     → Octets (window.areaAfter m size area addr byte)
 unfolding window.areaAfter
 window-octets m size area addr byte o h = way-octets (window.wayOf m size addr) size area addr byte o h
@@ -105,20 +101,6 @@ window-of c lent addr bad f l b w =
     sym (by-tests c lent addr bad f l refl refl b)
     ∙ ap (λ (t : Bool). pick (not t) (Refuse BadAddress) (pick (inRom addr) Rom Ram)) w
 
--- a byte of the padded image
-module _ {image : List ℕ} {past : Since} {m : Machine} {o : Cartridge} (r : Ready image m) (s : Same image past m o) where
-  rom-long : length (o .rom) ≡ m .cart .banks * 0x4000
-  rom-long =
-      ap length (s .rom) ∙ padded-length image ∙ ap paddedLength (r .image)
-      ∙ eqb-true _ _ (fit-padded (m .cart) (r .fit))
-
-  rom-byte : (bank addr : ℕ)
-      → index (o .rom) (romPlace (m .cart .banks) bank addr) ≡ ok (byteAt image (romPlace (m .cart .banks) bank addr))
-  rom-byte bank addr =
-      let place = romPlace (m .cart .banks) bank addr in
-      index-ok (o .rom) place (omega (arith, rom-long, rom-inside (m .cart .banks) bank addr (fit-banks (m .cart) (r .fit))))
-      ∙ ap (λ (x : List ℕ). ok (getD x place 0)) (s .rom) ∙ ap ok (padded-byte image place)
-
 -- ---- one access
 
 -- the original's answer to an access is x's, and what it leaves goes with what x leaves
@@ -136,44 +118,22 @@ module _ {image : List ℕ} {past : Since} {m : Machine} {o : Cartridge} (r : Re
 
   -- a read below 0x8000
   rom-read : (addr : ℕ) → addr < 0x8000 → originalStep o (run.reads addr) ≡ ok (left (run.gave (romByte board image addr)) o)
-  unfolding readRom0 readRomx mapper.bankAt
   rom-read addr h =
-      let f : ℕ → Outcome Left = λ bank. ok (left (run.gave (byteAt image (romPlace (board .banks) bank addr))) o) in
-      let gives : Outcome ℕ → Outcome Left = λ x. bind x (λ b. ok (left (run.gave b) o)) in
-      let at-place : Outcome ℕ → Outcome Left = λ x. gives (bind x (λ i. index (o .rom) i)) in
-      arm-cases f 0x0000 0x3FFF addr (omega arith)
-      (λ low.
-      ap at-place (rom0-same (board .mapper) (o .mapper) past known (s .mapper) addr (omega arith))
-      ∙ ap gives (rom-byte r s (mapper.bank0 (board .mapper)) addr))
-      (λ high.
-      rw (inside 0x4000 0x7FFF addr (omega arith) (omega arith))
-      (ap at-place (romx-same (board .mapper) (o .mapper) past known (s .mapper) addr (omega arith) h)
-      ∙ ap gives (rom-byte r s (mapper.bankX (board .mapper)) addr)))
+      forms.rom-read image board o (r .fit) (r .image) (s .rom) addr h
+      (λ l. rom0-same (board .mapper) (o .mapper) past known (s .mapper) addr l)
+      (λ l. romx-same (board .mapper) (o .mapper) past known (s .mapper) addr l h)
 
   -- and one of the window
   ram-read : (addr : ℕ) → 0xA000 ≤ addr → addr ≤ 0xBFFF
       → Stepped image (sinceAfter (board .mapper) past (run.reads addr)) o (run.reads addr)
       (record { answer = run.gave (window.readOf (board .mapper) (board .size) (m .area) addr); left = m })
-  unfolding readRam
   ram-read addr l h =
       let x = read-same (board .mapper) (o .mapper) past known (s .mapper) addr (inside 0xA000 0xBFFF addr l h) in
-      let reads : Mapped original.Mapper → Outcome ℕ → Outcome Read =
-      λ y b. bind b (λ byte. ok (record { self = cartridge.withMapper o (y .0); byte = byte })) in
-      let is : readRam o addr ≡ ok
-      (record { self = cartridge.withMapper o (x .next); byte = window.readOf (board .mapper) (board .size) (m .area) addr }) =
-      ap (λ (y : Outcome (Mapped original.Mapper)). bind y (λ z. reads z (readAt (o .ram) (z .1)))) (x .is)
-      ∙ ap (λ (ram : List ℕ). reads (mapped (x .next) (x .result)) (readAt ram (x .result))) (s .ram)
-      ∙ ap (reads (mapped (x .next) (x .result))) (x .byte) in
       record {
         next = cartridge.withMapper o (x .next);
         is =
-            rw (
-              outside 0x0000 0x3FFF addr (omega arith),
-              outside 0x4000 0x7FFF addr
-                  (omega arith),
-              inside 0xA000 0xBFFF addr l h,
-            )
-            (ap (λ (y : Outcome Read). bind y (λ z. ok (left (run.gave (z .byte)) (z .self)))) is);
+            forms.window-read o addr (x .next) (x .result) _ l h (x .is)
+            (ap (λ (ram : List ℕ). readAt ram (x .result)) (s .ram) ∙ x .byte);
         same = record { rom = s .rom; ram = s .ram; octets = s .octets; mapper = x .same };
       }
 
@@ -185,15 +145,11 @@ module _ {image : List ℕ} {past : Since} {m : Machine} {o : Cartridge} (r : Re
         answer = run.took;
         left = record { cart = withMapper board (mapper.written (board .mapper) addr byte); area = m .area };
       })
-  unfolding writeToBankController
   rom-write addr byte b h d =
       let x = register-same (board .mapper) (o .mapper) past known (s .mapper) addr byte h b d in
       record {
         next = cartridge.withMapper o (x .next);
-        is =
-            rw (inside 0x0000 0x7FFF addr (omega arith) (omega arith))
-            (ap (λ (y : Outcome original.Mapper). bind (bind y (λ z. ok (cartridge.withMapper o z)))
-            (λ d. ok (left run.took d))) (x .is));
+        is = forms.register-write o addr byte (x .next) h (x .is);
         same = record { rom = s .rom; ram = s .ram; octets = s .octets; mapper = x .same };
       }
 
@@ -209,21 +165,14 @@ module _ {image : List ℕ} {past : Since} {m : Machine} {o : Cartridge} (r : Re
               area = window.areaAfter (board .mapper) (board .size) (m .area) addr byte;
             };
       })
-  unfolding writeRam
   ram-write addr byte b l h d =
       let x = write-same (board .mapper) (o .mapper) past known (s .mapper) addr byte (inside 0xA000 0xBFFF addr l h) b d in
       let after = window.areaAfter (board .mapper) (board .size) (m .area) addr byte in
-      let stores : Mapped original.Mapper → Outcome (List ℕ) → Outcome Cartridge =
-      λ y ram. bind ram (λ z. ok (cartridge.withRam o (y .0) z)) in
-      let is : writeRam o addr byte ≡ ok (cartridge.withRam o (x .next) (take (board .size) after)) =
-      ap (λ (y : Outcome (Mapped original.Mapper)). bind y (λ z. stores z (writeAt (o .ram) (z .1) byte))) (x .is)
-      ∙ ap (λ (ram : List ℕ). stores (mapped (x .next) (x .result)) (writeAt ram (x .result) byte)) (s .ram)
-      ∙ ap (stores (mapped (x .next) (x .result))) (x .ram) in
       record {
         next = cartridge.withRam o (x .next) (take (board .size) after);
         is =
-            rw (outside 0x0000 0x7FFF addr (omega arith), inside 0xA000 0xBFFF addr l h)
-            (ap (λ (y : Outcome Cartridge). bind y (λ d. ok (left run.took d))) is);
+            forms.window-write o addr byte (x .next) (x .result) (take (board .size) after) l h (x .is)
+            (ap (λ (ram : List ℕ). writeAt ram (x .result) byte) (s .ram) ∙ x .ram);
         same =
             record {
               rom = s .rom;
@@ -233,18 +182,7 @@ module _ {image : List ℕ} {past : Since} {m : Machine} {o : Cartridge} (r : Re
             };
       }
 
-  -- clocks: those of the mapper, in the cartridge
-  cart-clocks : (n : ℕ) → clocksOf n o ≡ bind (mapperClocks n (o .mapper)) (λ x. ok (cartridge.withMapper o x))
-  unfolding clocksOf clockMapper
-  cart-clocks zero = refl
-  cart-clocks (suc n) =
-      ap (λ (y : Outcome Cartridge). bind y clockMapper) (cart-clocks n) ∙ go (mapperClocks n (o .mapper))
-    where
-      go : (y : Outcome original.Mapper) → bind (bind y (λ x. ok (cartridge.withMapper o x))) clockMapper
-          ≡ bind (bind y original.clock) (λ x. ok (cartridge.withMapper o x))
-      go (ok y) = refl
-      go panic = refl
-
+  -- clocks
   clocks : (n : ℕ) → Allowed (board .mapper) past (run.clocks n) (mapper.clocksOn (board .mapper) n)
       → Stepped image (sinceAfter (board .mapper) past (run.clocks n)) o (run.clocks n)
       (record {
@@ -256,10 +194,7 @@ module _ {image : List ℕ} {past : Since} {m : Machine} {o : Cartridge} (r : Re
       let x = clocks-same (board .mapper) (o .mapper) past known (s .mapper) n d in
       record {
         next = cartridge.withMapper o (x .next);
-        is =
-            ap (λ (y : Outcome Cartridge). bind y (λ d. ok (left run.took d))) (cart-clocks n)
-            ∙ ap (λ (y : Outcome original.Mapper). bind (bind y (λ z. ok (cartridge.withMapper o z)))
-            (λ d. ok (left run.took d))) (x .is);
+        is = forms.clocks-pass o n (x .next) (x .is);
         same = record { rom = s .rom; ram = s .ram; octets = s .octets; mapper = x .same };
       }
 
@@ -269,14 +204,14 @@ module _ {image : List ℕ} {m : Machine} (r : Ready image m) where
   lent : lentBoth (m .cart) (length image) (length (m .area)) ≡ true
   lent = both-true (eq-eqb _ _ (r .image)) (eq-eqb _ _ (r .area))
 
-  read-step : (addr : ℕ) → either (inRom addr) (inRam addr) ≡ true
+  pub read-step : (addr : ℕ) → either (inRom addr) (inRam addr) ≡ true
       → stepOf image m (run.reads addr) ≡ afterRead m (readBy (m .cart) image (m .area) addr (pick (inRom addr) Rom Ram))
   unfolding readOf readVerdict
   read-step addr w =
       ap (λ (v : Verdict). afterRead m (readBy (m .cart) image (m .area) addr v))
       (window-of (m .cart) (lentBoth (m .cart) (length image) (length (m .area))) addr false (r .fit) lent refl w)
 
-  write-step : (addr byte : ℕ) → either (inRom addr) (inRam addr) ≡ true → mapper.badSelection
+  pub write-step : (addr byte : ℕ) → either (inRom addr) (inRam addr) ≡ true → mapper.badSelection
       (m .cart .mapper) addr byte ≡ false
       → stepOf image m (run.writes addr byte)
       ≡ afterWrite m (writeBy (m .cart) addr byte (pick (inRom addr) Rom Ram))
@@ -288,7 +223,7 @@ module _ {image : List ℕ} {m : Machine} (r : Ready image m) where
       (r .fit)
       (eq-eqb _ _ (r .area)) b w)
 
-  clock-step : (n : ℕ) → mapper.late (m .cart .mapper) n ≡ false
+  pub clock-step : (n : ℕ) → mapper.late (m .cart .mapper) n ≡ false
       → stepOf image m (run.clocks n) ≡ afterClocks m (advanced.To (withMapper (m .cart) (mapper.clocksOn (m .cart .mapper) n)))
   unfolding advanceOf
   clock-step n e = rw (r .fit, e)

@@ -5,7 +5,7 @@
 use mathlib.Core.Bool.{Bool, true, false}
 use mathlib.Core.List.{List}
 use mathlib.Core.Logic.{_↔_}
-use mathlib.Core.Path.{_≡_, refl, sym, ap, _∙_, subst}
+use mathlib.Core.Path.{_≡_, refl, ap}
 use Prim.Native.Nat.{ℕ, _+_, _%_, _^_, _<_, _≤_}
 use lib.Count.{ones, trailingZeros}
 use lib.ListN.{getD, length, replicate}
@@ -48,9 +48,12 @@ use Rattle.original.specs.Domain.{Since, since, InDomain}
 use Rattle.original.specs.Verdict.{numberOf, cartridgeOf, ImageInDomain}
 use Rattle.original.proofs.StepLaws.{RanSame}
 use Rattle.original.proofs.Original as original
+use Rattle.original.specs.Step.{originalRun}
 use Rattle.original.proofs.Original.{mountedMachine}
+use Rattle.board.specs.Reach.{InReach}
+use Rattle.board.specs.Alike.{BoardAgrees}
+use Rattle.board.proofs.Board as board
 use Rattle.promises.specs.PublicCalls.{factsIn}
-use Rattle.promises.specs.Agrees.{Agrees}
 
 -- ---- Against the definitions
 
@@ -170,27 +173,19 @@ pub we-refuse-where-rust-errs : (image : List ℕ) (now : ℕ) → ImageInDomain
 we-refuse-where-rust-errs = original.erred-only
 
 -- 6. "mapped byte and changed RAM .. for .. every sequence of bus accesses in 01's domain": an image of bytes that we mount, any list
--- of accesses of bytes inside the domain, and any answers xs that our calls give to it and leave n. The Rust takes the image, gives
--- the answers xs, never panics, and leaves the RAM that we leave.
+-- of accesses of bytes that 15 and 16 don't refuse, and any answers xs that our calls give to it and leave n. The Rust takes the
+-- image, never panics, gives the answers xs, "clock registers only as the clock section says", and leaves the RAM that we leave.
 pub calls-agree : (image ram : List ℕ) (wall : ℕ) (c : Cartridge) → bytes.Octets image → mountOf image ram wall ≡ mounted.To c
-    → (accesses : List Access) → calls.Octets accesses → InDomain image (mountedMachine image ram wall c) (since 0 0) accesses
+    → (accesses : List Access) → calls.Octets accesses → InReach image (mountedMachine image ram wall c) (since 0 0) accesses
     → {xs : List Answer} {n : Machine} → Calls image (mountedMachine image ram wall c) accesses xs n
-    → Agrees image wall accesses xs n
-calls-agree image ram wall c octets e accesses b d {xs} {n} made =
-    let x = original.from-the-image image ram wall c octets e accesses b d in
-    let is = sequence.calls-run made in
-    let ran : RanSame image (mountedMachine image ram wall c) (x .0) accesses = x .2 in
-    let same : Same image (ran .past) n (ran .next) =
-    subst (λ (m : Machine). Same image (ran .past) m (ran .next)) (sym (is .1)) (ran .same) in
-    record {
-      start = x .0;
-      takes = x .1;
-      left = ran .next;
-      answers = ran .is ∙ ap (λ (ys : List Answer). ok (record { answers = ys; left = ran .next })) (sym (is .0));
-      ram = original.ram-byte same;
-      since = ran .past;
-      same = same;
-    }
+    → BoardAgrees image wall (mountedMachine image ram wall c) accesses xs n
+calls-agree = board.board-agrees
+
+-- Where the whole sequence keeps the clock's clauses, the answers are ours and the clock too.
+pub inside-agrees : {image : List ℕ} {wall : ℕ} {m : Machine} {accesses : List Access} {xs : List Answer} {n : Machine}
+    → (a : BoardAgrees image wall m accesses xs n) → InDomain image m (since 0 0) accesses
+    → (originalRun (a .start) accesses ≡ ok (record { answers = xs; left = a .left })) × Same image (a .since) n (a .left)
+inside-agrees = board.inside-agrees
 
 -- The same from any point of a game on, where the Rust's state goes with ours.
 pub run-agrees : {image : List ℕ} {past : Since} {m : Machine} {o : rust.Cartridge} → Ready image m → Same image past m o

@@ -22,7 +22,7 @@ is-utf8-requires c κs = search needs
 returns-3 : tie.Need-returns-3
 returns-3 c = let t = c .before .before in
     let l = t .before .before in
-    no-3 _ (l .before .if1 .left) (l .logo-at .ensures) (t .before .if2 .left) (t .title .ensures) (c .before .is-utf8 .ensures) (c .if3 .taken)
+    no-3 _ (l .before .if1 .left) (l .logo-at .ensures) (t .before .if2 .left) (t .title .ensures .0) (c .before .is-utf8 .ensures) (c .if3 .taken)
 
 byte-at-requires : tie.Need-byte-at-requires
 byte-at-requires c κs = search needs
@@ -43,13 +43,13 @@ returns-4 : tie.Need-returns-4
 returns-4 c = let f = c .before .before .before .before in
     let u = f .before .before .before in
     let l = u .before .before .before in
-    on-to-5 _ (l .before .if1 .left) (l .logo-at .ensures) (u .before .before .if2 .left) (u .before .title .ensures) (u .is-utf8 .ensures) (f .before .before .if3 .left) (f .before .byte-at .ensures) (f .find .ensures) (c .before .before .row .given .1) (c .check-sizes .ensures)
+    on-to-5 _ (l .before .if1 .left) (l .logo-at .ensures) (u .before .before .if2 .left) (u .before .title .ensures .0) (u .is-utf8 .ensures) (f .before .before .if3 .left) (f .before .byte-at .ensures) (f .find .ensures) (c .before .before .row .given .1) (c .check-sizes .ensures)
 
 returns-5 : tie.Need-returns-5
 returns-5 c = let f = c .before .before in
     let u = f .before .before .before in
     let l = u .before .before .before in
-    no-4 _ (l .before .if1 .left) (l .logo-at .ensures) (u .before .before .if2 .left) (u .before .title .ensures) (u .is-utf8 .ensures) (f .before .before .if3 .left) (f .before .byte-at .ensures) (f .find .ensures) (c .enum-told .given .1)
+    no-4 _ (l .before .if1 .left) (l .logo-at .ensures) (u .before .before .if2 .left) (u .before .title .ensures .0) (u .is-utf8 .ensures) (f .before .before .if3 .left) (f .before .byte-at .ensures) (f .find .ensures) (c .enum-told .given .1)
 
 pub check-spec : {M : Type 1} → statement M
 check-spec =

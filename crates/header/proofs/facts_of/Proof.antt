@@ -16,7 +16,7 @@ title-requires c κs = search needs
 returns : tie.Need-returns
 unfolding factsOf
 returns c = let p = c .before .before .before .before .pre in
-    rw (c .before .before .is-multicart .ensures, c .before .is-colour .ensures, c .title .ensures, p .0, p .1)
+    rw (c .before .before .is-multicart .ensures, c .before .is-colour .ensures, c .title .ensures .0, p .0, p .1)
 
 pub facts-of-spec : {M : Type 1} → statement M
 facts-of-spec =

@@ -1,6 +1,6 @@
 -- `image::title` meets its contract: the end is title_end's. Assumes nothing.
 use borrow.Author.Needs.{needs}
-use Rattle.image.proofs.ImageLaws.{title-none}
+use Rattle.image.proofs.ImageLaws.{title-none, start-early, start-late}
 use Rattle.image.proofs.title.Statement.{statement}
 use Rattle.image.proofs.title.Tie as tie
 
@@ -14,7 +14,7 @@ part-result-end : tie.Need-part-result-end
 part-result-end c = search needs
 
 returns : tie.Need-returns
-returns c = title-none _ (c .before .if1 .taken)
+returns c = (title-none _ (c .before .if1 .taken), start-early _ _ (c .before .if1 .taken))
 
 title-end-requires : tie.Need-title-end-requires
 title-end-requires c κs = search needs
@@ -29,7 +29,7 @@ part-result-end-2 : tie.Need-part-result-end-2
 part-result-end-2 c = search needs
 
 returns-2 : tie.Need-returns-2
-returns-2 c = search needs
+returns-2 c = (search needs, start-late _ _ (c .before .before .if1 .left))
 
 pub title-spec : {M : Type 1} → statement M
 title-spec =
