@@ -1,8 +1,12 @@
 -- A sequence of accesses to a mounted cartridge: what each is answered, and what is left at the end. A refused access is
 -- answered with its number, changes nothing, and the next one follows.
+use mathlib.Core.Bool.{true}
 use mathlib.Core.List.{List, [], _∷_}
+use mathlib.Core.Path.{_≡_}
 use Prim.Native.Nat.{ℕ}
+use lib.ListN.{length}
 use Rattle.clock.specs.Ticking as clock
+use Rattle.cartridge.specs.Fit.{fitCart, areaOf}
 use Rattle.cartridge.specs.declared.Cartridge.{Cartridge}
 use Rattle.access.specs.Verdict.{numberOf}
 use Rattle.bus.specs.Bus.{readOf, writeOf, areaAfter}
@@ -28,6 +32,12 @@ pub data Answer : Type 0 where
 pub record Machine : Type 0 where
   pub cart : Cartridge
   pub area : List ℕ
+
+-- a fit cartridge that is lent the image and the area it was mounted with
+pub record Ready (rom : List ℕ) (m : Machine) : Type 0 where
+  pub fit : fitCart (m .cart) ≡ true
+  pub image : length rom ≡ m .cart .length
+  pub area : length (m .area) ≡ areaOf (m .cart)
 
 -- the answer to an access, and what is left
 pub record Left : Type 0 where

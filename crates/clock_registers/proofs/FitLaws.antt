@@ -1,20 +1,12 @@
 -- What the fitness test says, as bounds. Assumes nothing.
 use mathlib.Core.Bool.{true}
 use mathlib.Core.Path.{_≡_}
-use Prim.Native.Nat.{_<_}
 use lib.Dec.{ltb}
 use borrow.Author.Tests.{lt-ltb, ltb-true}
 use Rattle.facts.specs.Choice.{both}
 use Rattle.facts.proofs.ChoiceLaws.{both-left, both-right, both-true}
-use Rattle.clock_registers.specs.Fit.{fitRegisters}
+use Rattle.clock_registers.specs.Fit.{fitRegisters, Fit}
 use Rattle.clock_registers.specs.declared.Registers.{Registers}
-
--- the registers fit their widths
-pub record Fit (r : Registers) : Type 0 where
-  pub second : r .second < 64
-  pub minute : r .minute < 64
-  pub hour : r .hour < 32
-  pub day : r .day < 512
 
 pub fit-bounds : (r : Registers) → fitRegisters r ≡ true → Fit r
 unfolding fitRegisters

@@ -4,12 +4,12 @@ use mathlib.Core.Path.{_≡_, ap, _∙_}
 use Prim.Native.Nat.{ℕ, zero, suc, _<_}
 use native.Mathlib.Omega.{arith}
 use lib.ListN.{getD}
-use Rattle.clock_registers.specs.Fit.{fitRegisters}
+use Rattle.clock_registers.specs.Fit.{fitRegisters, Fit}
 use Rattle.clock_registers.specs.Seconds.{forwardOf}
 use Rattle.clock_registers.specs.Access.{writings}
 use Rattle.clock_registers.specs.declared.Registers.{Registers}
 use Rattle.clock_registers.specs.declared.Stepped.the-variants.{To}
-use Rattle.clock_registers.proofs.FitLaws.{Fit, fit-bounds, bounds-fit}
+use Rattle.clock_registers.proofs.FitLaws.{fit-bounds, bounds-fit}
 use Rattle.clock_registers.proofs.SecondLaws.{seconds-fit, stepped-only}
 
 pub forward-fit : (r q : Registers) (n : ℕ) → forwardOf r n ≡ To q → fitRegisters q ≡ true

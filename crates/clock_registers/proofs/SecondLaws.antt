@@ -20,12 +20,12 @@ use Rattle.facts.proofs.CounterLaws.{
   low-ran,
   plain-grows,
 }
-use Rattle.clock_registers.specs.Fit.{fitRegisters}
+use Rattle.clock_registers.specs.Fit.{fitRegisters, Fit}
 use Rattle.clock_registers.specs.Seconds.{sixty, hours, days, secondOn, secondsOn, forwardOf}
 use Rattle.clock_registers.specs.Access.{registers}
 use Rattle.clock_registers.specs.declared.Registers.{Registers}
 use Rattle.clock_registers.specs.declared.Stepped.the-variants.{To, Unfit}
-use Rattle.clock_registers.proofs.FitLaws.{Fit, fit-bounds, bounds-fit}
+use Rattle.clock_registers.proofs.FitLaws.{fit-bounds, bounds-fit}
 
 -- ---- n seconds: how often the minute, the hour, the day and the carry move
 

@@ -6,17 +6,8 @@ use mathlib.Core.List.{List, [], _∷_, _++_}
 use Prim.Native.Nat.{ℕ, zero, suc}
 use lib.ListN.{getD}
 use Rattle.facts.specs.Choice.{pick}
-use Rattle.facts.specs.Refusals.{No, firstNo, anyNo, inWords}
+use Rattle.facts.specs.Refusals.{No, firstNo, anyNo, First, inWords}
 use Rattle.facts.proofs.ChoiceLaws.{false≢true, neither}
-
--- t is the first of ts that holds
-pub record First {R : Type 0} (ts : List (No R)) : Type 0 where
-  pub before : List (No R)
-  pub test : No R
-  pub after : List (No R)
-  pub is : ts ≡ before ++ (test ∷ after)
-  pub none-before : anyNo before ≡ false
-  pub holds : test .holds ≡ true
 
 -- none holds, or there is a first that does
 pub none-or-first : {R : Type 0} (ts : List (No R)) → (anyNo ts ≡ false) ⊎ First ts

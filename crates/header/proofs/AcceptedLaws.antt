@@ -11,10 +11,10 @@ use lib.ListN.{length}
 use lib.Pow.{pow-add}
 use borrow.Author.Tests.{eqb-true, ltb-false}
 use Rattle.facts.specs.Choice.{both}
-use Rattle.facts.specs.Refusals.{no, anyNo}
+use Rattle.facts.specs.Refusals.{no, anyNo, First}
 use Rattle.facts.specs.Listed.{oneOf}
 use Rattle.facts.proofs.ChoiceLaws.{false≢true, both-parts, both-left, not-false, either-cases}
-use Rattle.facts.proofs.RefusalLaws.{First, none-or-first, first-answers, none-accepts, none-at}
+use Rattle.facts.proofs.RefusalLaws.{none-or-first, first-answers, none-accepts, none-at}
 use Rattle.image.specs.Image.{byteAt, paddedLength, isMulticart}
 use Rattle.image.proofs.ImageLaws.{padded-le}
 use Rattle.types.specs.declared.Kind.{Kind}

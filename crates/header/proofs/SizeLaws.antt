@@ -11,7 +11,7 @@ use lib.Count.{ones, trailingZeros, under, ones-step}
 use borrow.Author.Tests.{eq-eqb, ne-eqb, lt-ltb, le-ltb, eqb-true, leb-true}
 use Rattle.facts.specs.Choice.{both}
 use Rattle.facts.proofs.ChoiceLaws.{both-parts}
-use Rattle.header.specs.Size.{romSize, mends, romFits, ramSizeOf}
+use Rattle.header.specs.Size.{romSize, mends, Power, romFits, ramSizeOf}
 
 -- the shift does not wrap, and is no 0
 pub exact : (n : ℕ) → n ≤ 8 → 32768 * 2 ^ n % 4294967296 ≡ romSize n
@@ -58,11 +58,6 @@ one-bit (suc d) q h e = go (q % 2) refl (one-bit d (q / 2) (omega (arith, pow-su
         let i = ih (omega (arith, ones-step q)) in
         omega (arith, pow-suc 2 (trailingZeros d (q / 2)))
     go (suc r) p ih = omega (arith, none (q / 2) (omega (arith, ones-step q)))
-
-pub record Power (q : ℕ) : Type 0 where
-  pub log : ℕ
-  pub small : log ≤ 7
-  pub is : q ≡ 2 ^ log
 
 pub mends-power : (q : ℕ) → q < 4294967296 → mends q ≡ true → Power q
 unfolding mends

@@ -14,7 +14,7 @@ use Rattle.facts.proofs.ChoiceLaws.{false≢true}
 use Rattle.clock_registers.specs.Access.{readings, writings}
 use Rattle.clock_registers.specs.Seconds.{sixty, hours, minuteMoves, hourMoves, secondOn, secondsOn}
 use Rattle.clock_registers.specs.declared.Registers.{Registers}
-use Rattle.clock_registers.proofs.FitLaws.{Fit, fit-bounds, bounds-fit}
+use Rattle.clock_registers.proofs.FitLaws.{fit-bounds, bounds-fit}
 use Rattle.clock_registers.proofs.SecondLaws.{seconds-fit}
 use Rattle.clock_registers.proofs.KeptLaws.{written-fit}
 use Rattle.clock.specs.Access.{startAt, visible, writtenClock, latchedOf}
@@ -23,6 +23,7 @@ use Rattle.original.specs.Machine.{Outcome, ok, bind}
 use Rattle.original.specs.Rtc.{RtcRegister, default, shown, updateRegisters, readRegister, writeRegister, setLatch}
 use Rattle.original.specs.Follows.{rtcOf, Ahead, Follows}
 use Rattle.original.proofs.RtcLaws.{Sound, up-to-date, made-up, shown-byte, write-register}
+use Rattle.clock_registers.specs.Fit.{Fit}
 
 -- ---- seconds never come to minute 60 or hour 24
 

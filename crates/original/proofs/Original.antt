@@ -1,31 +1,25 @@
 -- Demand 2, against the Rust itself: inside document 01's domain the transcription in specs/ never panics and gives the same
 -- verdict, byte and RAM, access by access. Assumes nothing.
 use mathlib.Core.List.{List}
-use mathlib.Core.Path.{_≡_, ap, _∙_}
-use Prim.Native.Nat.{ℕ, _*_, _<_}
-use lib.ListN.{length, getD}
-use lib.Seq.{getD-take}
-use Rattle.bytes_le.specs.Little.{Octets}
+use mathlib.Core.Path.{_≡_, _∙_}
+use Prim.Native.Nat.{ℕ, _*_}
+use lib.ListN.{length}
 use Rattle.header.specs.Check as header
 use Rattle.header.specs.Check.{checkOf}
 use Rattle.header.specs.declared.HeaderRefusal.{HeaderRefusal}
 use Rattle.header.specs.declared.Facts.{Facts}
 use Rattle.header.specs.declared.Checked.the-variants.{Accept, Refuse}
 use Rattle.header.proofs.AcceptedLaws.{accepted-fits}
-use Rattle.cartridge.specs.declared.Cartridge as our
-use Rattle.mount.specs.Mount as mount
-use Rattle.mount.specs.Mount.{mountOf}
-use Rattle.mount.specs.declared.Mounted.the-variants as mounted
-use Rattle.bus.specs.Run.{Access, Machine, stepOf}
-use Rattle.runs.specs.Calls.{Ready, Octet}
-use Rattle.runs.specs.Calls as calls
+use Rattle.bus.specs.Run.{Access, Machine, stepOf, Ready}
+use Rattle.runs.specs.Calls.{Octet}
+use Rattle.runs.specs.Game.{Game}
 use Rattle.runs.proofs.ImageLaws.{padded-length}
-use Rattle.runs.proofs.RunLaws.{mount-ready}
 use Rattle.original.specs.Machine.{ok, panic}
 use Rattle.original.specs.Cartridge.{Cartridge, CartridgeError, taken, error, fromFile}
 use Rattle.original.specs.Same.{Same}
-use Rattle.original.specs.Domain.{Since, since, sinceAfter, Allowed, InDomain}
+use Rattle.original.specs.Domain.{Since, sinceAfter, Allowed}
 use Rattle.original.specs.Verdict.{numberOf, cartridgeOf, ImageInDomain, SameVerdict}
+use Rattle.original.specs.Along.{StartSame, Stepped}
 use Rattle.original.proofs.VerdictLaws as verdict
 use Rattle.original.proofs.StartLaws as start
 use Rattle.original.proofs.StepLaws as step
@@ -60,34 +54,12 @@ pub erred-only : (image : List ℕ) (now : ℕ) → ImageInDomain image → (e :
 erred-only image now i e = verdict.erred-only image now (same-verdict image now i)
 
 -- 2. What we mount goes with what it gives.
-pub start-same : (image ram : List ℕ) (wall : ℕ) (c : our.Cartridge) → Octets image → mountOf image ram wall ≡ mounted.To c
-    → start.StartSame image ram wall c
+pub start-same : (g : Game) → StartSame g
 start-same = start.start-same
 
 -- 3. Access by access: of a fit machine lent its own, and an access in the domain, the original does not panic, gives our
--- answer, and leaves what goes with what we leave: the RAM byte by byte, MBC2's half-bytes, MBC3's clock.
+-- answer, and leaves what goes with what we leave: the RAM byte by byte, MBC2's half-bytes, MBC3's clock. `board` says it of lists.
 pub step-same : {image : List ℕ} {past : Since} {m : Machine} {o : Cartridge} → Ready image m → Same image past m o
     → (a : Access) → Octet a → Allowed (m .cart .mapper) past a (stepOf image m a .left .cart .mapper)
-    → step.Stepped image (sinceAfter (m .cart .mapper) past a) o a (stepOf image m a)
+    → Stepped image (sinceAfter (m .cart .mapper) past a) o a (stepOf image m a)
 step-same = step.step-same
-
--- What goes with our machine has its RAM byte by byte.
-pub ram-byte : {image : List ℕ} {past : Since} {m : Machine} {o : Cartridge} → Same image past m o → (i : ℕ) → i < m .cart .size
-    → getD (o .ram) i 0 ≡ getD (m .area) i 0
-ram-byte {m = m} s i h = ap (λ (l : List ℕ). getD l i 0) (s .ram) ∙ getD-take (m .cart .size) (m .area) i 0 h
-
--- 4. So it is for every list of accesses,
-pub run-same : {image : List ℕ} {past : Since} {m : Machine} {o : Cartridge} → Ready image m → Same image past m o
-    → (as′ : List Access) → calls.Octets as′ → InDomain image m past as′ → step.RanSame image m o as′
-run-same = step.run-same
-
--- from the image on.
-abbrev pub mountedMachine : List ℕ → List ℕ → ℕ → our.Cartridge → Machine
-mountedMachine image ram wall c = record { cart = c; area = mount.areaAfter image ram wall }
-
-pub from-the-image : (image ram : List ℕ) (wall : ℕ) (c : our.Cartridge) → Octets image → mountOf image ram wall ≡ mounted.To c
-    → (as′ : List Access) → calls.Octets as′ → InDomain image (mountedMachine image ram wall c) (since 0 0) as′
-    → (o : Cartridge) × (fromFile image wall ≡ ok (taken o)) × step.RanSame image (mountedMachine image ram wall c) o as′
-from-the-image image ram wall c o e as′ b d =
-    let x = start.start-same image ram wall c o e in
-    (cartridgeOf image wall (x .facts), x .is, step.run-same (mount-ready image ram wall c e) (x .same) as′ b d)

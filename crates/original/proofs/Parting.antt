@@ -29,8 +29,7 @@ use Rattle.cartridge.specs.declared.Cartridge.{Cartridge}
 use Rattle.access.specs.Verdict.{noes, verdictOf}
 use Rattle.bus.specs.Bus as bus
 use Rattle.bus.specs.Advance.{advanceOf}
-use Rattle.bus.specs.Run.{Access, reads, writes, clocks, Answer, gave, took, refused, Machine, runOf}
-use Rattle.runs.specs.Calls.{Ready}
+use Rattle.bus.specs.Run.{Access, reads, writes, clocks, Answer, gave, took, refused, Machine, runOf, Ready}
 use Rattle.runs.specs.Padded.{padded}
 use Rattle.original.specs.Machine.{Outcome, ok, panic, bind}
 use Rattle.original.specs.Rtc as rtc

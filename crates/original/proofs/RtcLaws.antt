@@ -15,13 +15,13 @@ use Rattle.facts.proofs.BitLaws.{join-above}
 use Rattle.clock_registers.specs.Access.{readings, writings}
 use Rattle.clock_registers.specs.Seconds.{days, minuteMoves, hourMoves, dayMoves, secondOn, secondsOn}
 use Rattle.clock_registers.specs.declared.Registers.{Registers}
-use Rattle.clock_registers.proofs.FitLaws.{Fit}
 use Rattle.clock_registers.proofs.AccessLaws.{day-low}
 use Rattle.clock.specs.Access.{subAfter}
 use Rattle.clock.specs.declared.Clock.{Clock}
 use Rattle.original.specs.Machine.{Outcome, ok, bind, u8, u64, asU8, asU16, wrappingAddU64}
 use Rattle.original.specs.Rtc.{RtcRegister, rtc, setLast, added, addToRegisters, updateRegisters, shown, set, writeRegister}
 use Rattle.original.specs.Follows.{rtcOf}
+use Rattle.clock_registers.specs.Fit.{Fit}
 
 -- ---- one second more, in one jump
 

@@ -7,14 +7,11 @@ use native.Mathlib.Nat.{zero-add, suc-add}
 use native.Mathlib.Omega.{arith}
 use lib.ListN.{length, take, drop, replicate}
 use Rattle.facts.proofs.ListLaws.{one-of-le}
-use Rattle.bytes_le.specs.Little.{Octets}
 use Rattle.bytes_le.proofs.OctetLaws.{octets-zeros}
 use Rattle.types.specs.declared.Kind.{Kind}
 use Rattle.types.specs.declared.Kind.the-variants as kind
 use Rattle.header.specs.Size.{ramSizes}
-use Rattle.header.specs.Check.{checkOf}
 use Rattle.header.specs.declared.Facts.{Facts}
-use Rattle.header.specs.declared.Checked.the-variants.{Accept}
 use Rattle.header.proofs.AcceptedLaws.{accepted-fits}
 use Rattle.mbc2.specs.Registers as our2
 use Rattle.mbc3.specs.Registers as our3
@@ -22,19 +19,20 @@ use Rattle.mapper.specs.Mappers as mapper
 use Rattle.cartridge.specs.Fit.{areaOf}
 use Rattle.cartridge.specs.declared.Cartridge as our
 use Rattle.mount.specs.Mount as mount
-use Rattle.mount.specs.Mount.{startOf, cartOf, mountOf}
+use Rattle.mount.specs.Mount.{startOf, cartOf}
 use Rattle.mount.specs.declared.Mounted.{Mounted}
-use Rattle.mount.specs.declared.Mounted.the-variants as mounted
 use Rattle.runs.specs.Limits.{Within}
+use Rattle.runs.specs.Game.{Game}
 use Rattle.runs.proofs.ImageLaws.{within}
 use Rattle.runs.proofs.BusLaws.{mount-taken}
-use Rattle.original.specs.Machine.{Outcome, ok}
+use Rattle.original.specs.Machine.{Outcome}
 use Rattle.original.specs.Mbc3 as mbc3
 use Rattle.original.specs.Mapper as original
-use Rattle.original.specs.Cartridge.{Cartridge, taken, fromFile}
+use Rattle.original.specs.Cartridge.{Cartridge}
 use Rattle.original.specs.Same.{mbc2Of, SameMapper, Same}
 use Rattle.original.specs.Verdict.{mapperOf, valueOr, mbc3Start, cartridgeOf}
 use Rattle.original.specs.Domain.{since}
+use Rattle.original.specs.Along.{StartSame}
 use Rattle.original.specs.Follows as follows
 use Rattle.original.proofs.Mbc3Laws as mbc3-laws
 use Rattle.original.proofs.VerdictLaws.{same-verdict, taken-by, accepted-inside}
@@ -100,33 +98,25 @@ start-cart image n wall d c p =
       mapper = start-mapper (d .kind) (d .multicart) (d .banks) (d .size) wall c p;
     }
 
--- what `from_file` gives for an image that we mount, and that it goes with what we mounted
-pub record StartSame (image ram : List ℕ) (wall : ℕ) (c : our.Cartridge) : Type 0 where
-  pub facts : Facts
-  pub accepted : checkOf image ≡ Accept facts
-  pub is : fromFile image wall ≡ ok (taken (cartridgeOf image wall facts))
-  pub same : Same image (since 0 0) (record { cart = c; area = mount.areaAfter image ram wall }) (cartridgeOf image wall facts)
-
-pub start-same : (image ram : List ℕ) (wall : ℕ) (c : our.Cartridge) → Octets image → mountOf image ram wall ≡ mounted.To c
-    → StartSame image ram wall c
+pub start-same : (g : Game) → StartSame g
 unfolding mount.areaAfter
-start-same image ram wall c o e =
-    let t = mount-taken image ram wall c e in
+start-same g =
+    let image = g .image in
+    let wall = g .wall in
+    let t = mount-taken image (g .area) wall (g .cart) (g .mounts) in
     let fits = accepted-fits image (t .facts) (t .accepted) in
-    let given = taken-by image wall (same-verdict image wall o (fits .short) (accepted-inside (t .accepted))) (t .accepted) in
-    let n = length image in
+    let same = same-verdict image wall (g .octets) (fits .short) (accepted-inside (t .accepted)) in
     let limits = within (t .facts .kind) (t .facts .banks) (t .facts .size) (fits .supported) (fits .limit) in
-    let area : mount.areaBy (mountOf image ram wall) ram ≡ zeros (areaOf c) =
-    ap (λ (x : Mounted). mount.areaBy x ram) e ∙ ap zeros (t .lent) in
+    let sized = one-of-le 0x20000 (t .facts .size) ramSizes refl (fits .sized) in
+    let area : mount.areaBy (mount.mountOf image (g .area) wall) (g .area) ≡ zeros (areaOf (g .cart)) =
+    ap (λ (x : Mounted). mount.areaBy x (g .area)) (g .mounts) ∙ ap zeros (t .lent) in
+    let given = cartridgeOf image wall (t .facts) in
     record {
       facts = t .facts;
       accepted = t .accepted;
-      is = given;
+      is = taken-by image wall same (t .accepted);
       same =
-          subst (λ (l : List ℕ). Same image (since 0 0) (record { cart = c; area = l }) (cartridgeOf image wall (t .facts)))
-          (sym area)
-          (subst (λ (x : our.Cartridge). Same image (since 0 0) (record { cart = x; area = zeros (areaOf x) })
-          (cartridgeOf image wall (t .facts)))
-          (sym (t .is))
-          (start-cart image n wall (t .facts) limits (one-of-le 0x20000 (t .facts .size) ramSizes refl (fits .sized))));
+          subst (λ (l : List ℕ). Same image (since 0 0) (record { cart = g .cart; area = l }) given) (sym area)
+          (subst (λ (x : our.Cartridge). Same image (since 0 0) (record { cart = x; area = zeros (areaOf x) }) given) (sym (t .is))
+          (start-cart image (length image) wall (t .facts) limits sized));
     }

@@ -37,17 +37,16 @@ use Rattle.access.proofs.Laws.{by-tests}
 use Rattle.bus.specs.Bus.{lentBoth, lentArea, readVerdict, writeVerdict, romByte, readBy, readOf, writeBy, writeOf, areaBy, areaAfter}
 use Rattle.bus.specs.Advance.{advanceOf}
 use Rattle.bus.specs.Run as run
-use Rattle.bus.specs.Run.{Access, Machine, afterRead, afterWrite, afterClocks, stepOf, runOf}
+use Rattle.bus.specs.Run.{Access, Machine, afterRead, afterWrite, afterClocks, stepOf, Ready}
 use Rattle.bus.specs.declared.Advanced.the-variants as advanced
-use Rattle.runs.specs.Calls.{Ready, Octet}
-use Rattle.runs.specs.Calls as calls
-use Rattle.runs.proofs.RunLaws.{run-ready}
+use Rattle.runs.specs.Calls.{Octet}
 use Rattle.original.specs.Machine.{Outcome, ok, bind}
 use Rattle.original.specs.Cartridge as cartridge
 use Rattle.original.specs.Cartridge.{Cartridge, readAt, writeAt}
 use Rattle.original.specs.Same.{Same, Fit}
-use Rattle.original.specs.Step.{Left, left, originalStep, Ran, originalRun}
-use Rattle.original.specs.Domain.{Since, sinceAfter, Allowed, InDomain}
+use Rattle.original.specs.Step.{left, originalStep}
+use Rattle.original.specs.Domain.{Since, sinceAfter, Allowed}
+use Rattle.original.specs.Along.{Stepped}
 use Rattle.original.proofs.MachineLaws.{inside}
 use Rattle.original.proofs.StepForms as forms
 use Rattle.original.proofs.MapperLaws.{rom0-same, romx-same, register-same, read-same, write-same, clocks-same, past-write, past-rom, early}
@@ -102,12 +101,6 @@ window-of c lent addr bad f l b w =
     ∙ ap (λ (t : Bool). pick (not t) (Refuse BadAddress) (pick (inRom addr) Rom Ram)) w
 
 -- ---- one access
-
--- the original's answer to an access is x's, and what it leaves goes with what x leaves
-pub record Stepped (image : List ℕ) (past : Since) (o : Cartridge) (a : Access) (x : run.Left) : Type 0 where
-  pub next : Cartridge
-  pub is : originalStep o a ≡ ok (left (x .answer) next)
-  pub same : Same image past (x .left) next
 
 module _ {image : List ℕ} {past : Since} {m : Machine} {o : Cartridge} (r : Ready image m) (s : Same image past m o) where
   abbrev board : our.Cartridge
@@ -277,31 +270,3 @@ step-same {image} {past} {m} {o} r s (run.clocks n) b d =
     let e = clock-step r n (early (m .cart .mapper) past n (d .time)) in
     subst (Stepped image (later m past (run.clocks n)) o (run.clocks n)) (sym e)
     (clocks r s n (subst (λ (x : run.Left). Allowed (m .cart .mapper) past (run.clocks n) (x .left .cart .mapper)) e d))
-
--- ---- and of lists of accesses
-
-pub record RanSame (image : List ℕ) (m : Machine) (o : Cartridge) (as′ : List Access) : Type 0 where
-  pub past : Since
-  pub next : Cartridge
-  pub is : originalRun o as′ ≡ ok (record { answers = runOf image m as′ .answers; left = next })
-  pub same : Same image past (runOf image m as′ .left) next
-
-pub run-same : {image : List ℕ} {past : Since} {m : Machine} {o : Cartridge} → Ready image m → Same image past m o
-    → (as′ : List Access)
-    → calls.Octets as′ → InDomain image m past as′ → RanSame image m o as′
-unfolding originalRun
-run-same {past = past} {o = o} r s [] b d = record { past = past; next = o; is = refl; same = s }
-run-same {image} {past} {m} {o} r s (a ∷ as′) b d =
-    let x = step-same r s a (b .0) (d .0) in
-    let y = run-same (run-ready image m (a ∷ []) r (b .0, tt)) (x .same) as′ (b .1) (d .1) in
-    let rest : Left → Outcome Ran = λ l. bind (originalRun (l .left) as′)
-    (λ z. ok (record { answers = l .answer ∷ z .answers; left = z .left })) in
-    record {
-      past = y .past;
-      next = y .next;
-      is =
-          ap (λ (l : Outcome Left). bind l rest) (x .is)
-          ∙ ap (λ (z : Outcome Ran). bind z
-          (λ z. ok (record { answers = stepOf image m a .answer ∷ z .answers; left = z .left }))) (y .is);
-      same = y .same;
-    }

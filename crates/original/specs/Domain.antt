@@ -92,6 +92,11 @@ sinceAfter (Mbc2 m) s a = s
 sinceAfter (Mbc3 m) s a = onward m s a
 sinceAfter (Mbc5 m) s a = s
 
+-- and after a list of them, to a machine mounted from rom
+abbrev pub sinceOf : List ℕ → Machine → Since → List Access → Since
+sinceOf rom m s [] = s
+sinceOf rom m s (a ∷ as′) = sinceOf rom (stepOf rom m a .left) (sinceAfter (m .cart .mapper) s a) as′
+
 -- "accesses that 15 and 16 don't refuse"
 abbrev pub reached : Access → Bool
 reached (reads addr) = either (inRom addr) (inRam addr)

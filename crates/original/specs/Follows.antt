@@ -6,7 +6,6 @@ use lib.Dec.{eqb}
 use Rattle.facts.specs.Choice.{pick}
 use Rattle.clock_registers.specs.Seconds.{secondsOn}
 use Rattle.clock_registers.specs.declared.Registers.{Registers}
-use Rattle.clock_registers.proofs.FitLaws.{Fit}
 use Rattle.clock.specs.Ticking.{ticks}
 use Rattle.clock.specs.declared.Clock.{Clock}
 use Rattle.mbc3.specs.declared.Mbc3 as declared
@@ -19,6 +18,7 @@ use Rattle.original.specs.MappingResult.{MappingResult}
 use Rattle.original.specs.Mbc3.{Mbc3, mbc3, clock}
 use Rattle.original.specs.Place.{resultOf}
 use Rattle.original.specs.Domain.{Since}
+use Rattle.clock_registers.specs.Fit.{Fit}
 
 -- n calls of `clock_second_part`, and of `clock`
 unfoldable pub secondParts : ℕ → RtcRegister → Outcome RtcRegister

@@ -12,7 +12,7 @@ use Rattle.facts.specs.Choice.{pick, both}
 use Rattle.mapper.specs.declared.Mapper.{Mapper}
 use Rattle.mapper.specs.Mappers as mapper
 use Rattle.window.specs.Window as window
-use Rattle.cartridge.specs.Fit.{fitCart, areaOf}
+use Rattle.cartridge.specs.Fit.{fitCart, areaOf, InTime}
 use Rattle.cartridge.specs.With.{withMapper}
 use Rattle.cartridge.specs.declared.Cartridge.{Cartridge}
 use Rattle.header.specs.declared.Facts.{Facts}
@@ -24,6 +24,7 @@ use Rattle.access.specs.declared.BusRefusal.{BusRefusal}
 use Rattle.access.specs.declared.BusRefusal.the-variants.{BadAddress}
 use Rattle.bus.specs.Bus as bus
 use Rattle.bus.specs.Advance as advance
+use Rattle.bus.specs.Run.{Ready}
 use Rattle.bus.specs.declared.ReadAnswer.{ReadAnswer}
 use Rattle.bus.specs.declared.ReadAnswer.the-variants as read
 use Rattle.bus.specs.declared.WriteAnswer.{WriteAnswer}
@@ -39,7 +40,6 @@ use Rattle.save_file.specs.declared.Loaded.the-variants as loaded
 use Rattle.states.specs.Layout.{encodeOf}
 use Rattle.states.specs.Reading.{decodeOf}
 use Rattle.states.specs.Plain.{plain}
-use Rattle.states.specs.Widths.{InTime}
 use Rattle.states.specs.declared.Decoded.{Decoded}
 use Rattle.states.specs.declared.Decoded.the-variants.{To, NoState}
 use Rattle.states.proofs.Back.{decode-encode, encode-plain, fit-plain, fit-widths}
@@ -50,7 +50,6 @@ use Rattle.windows.specs.declared.Seen.{Seen}
 use Rattle.windows.specs.declared.Seen.the-variants as seen
 use Rattle.windows.specs.declared.Put.the-variants as put
 use Rattle.windows.proofs.Same.{
-  Lent,
   window-read,
   only-15,
   window-write,
@@ -248,7 +247,7 @@ put-or : (b : Bool) → putNumber (pick b put.Ask put.Done) ≡ pick b 0x200 0
 put-or true = refl
 put-or false = refl
 
-pub window-read-is-read : (s numbers rom ram : List ℕ) (addr : ℕ) (c : Cartridge) → decodeOf s ≡ To c → Lent c rom ram
+pub window-read-is-read : (s numbers rom ram : List ℕ) (addr : ℕ) (c : Cartridge) → decodeOf s ≡ To c → Ready rom (record { cart = c; area = ram })
     → windowRead (windowsAfter s numbers) rom ram addr ≡ pick (both (inRam addr) (asksOf c)) 0x200 (readOf s rom ram addr)
 unfolding windowRead windowsAfter askOf readOf
 window-read-is-read s numbers rom ram addr c e l =

@@ -13,8 +13,8 @@ use native.Mathlib.Omega.{arith}
 use lib.ListN.{length, drop}
 use borrow.Author.Tests.{eqb-true}
 use Rattle.facts.specs.Choice.{pick}
-use Rattle.facts.specs.Refusals.{firstNo, anyNo}
-use Rattle.facts.proofs.RefusalLaws.{First, none-or-first, first-map}
+use Rattle.facts.specs.Refusals.{firstNo, anyNo, First}
+use Rattle.facts.proofs.RefusalLaws.{none-or-first, first-map}
 use Rattle.clock.specs.Ticking as clock
 use Rattle.clock.specs.declared.Clock.{Clock}
 use Rattle.clock_block.specs.Waking as block
@@ -45,7 +45,7 @@ use Rattle.access.specs.Verdict.{inRom, noes, verdictOf}
 use Rattle.access.specs.declared.Verdict.the-variants.{Rom, Ram, Refuse}
 use Rattle.bus.specs.Bus.{readVerdict, writeVerdict, readBy, readOf, writeBy, writeOf, areaAfter}
 use Rattle.bus.specs.Advance.{advanceOf}
-use Rattle.bus.specs.Run.{Access, Machine, stepOf, runOf}
+use Rattle.bus.specs.Run.{Access, Machine, stepOf, runOf, Ready}
 use Rattle.bus.specs.Run as run
 use Rattle.bus.specs.declared.WriteAnswer.the-variants as write
 use Rattle.bus.specs.declared.Advanced.the-variants as advanced
@@ -56,7 +56,7 @@ use Rattle.save_file.specs.Load.{loadNoes, acceptedOf, loadOf}
 use Rattle.save_file.proofs.Laws.{room-length}
 use Rattle.save_file.specs.declared.Saved.the-variants as saved
 use Rattle.save_file.specs.declared.Loaded.the-variants as loaded
-use Rattle.runs.specs.Calls.{Octets, Ready, AllNeither}
+use Rattle.runs.specs.Calls.{Octets, AllNeither}
 use Rattle.runs.proofs.BusLaws as laws
 use Rattle.runs.proofs.RunLaws as sequence
 use Rattle.runs.proofs.SaveLaws as saves

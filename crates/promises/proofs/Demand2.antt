@@ -5,37 +5,45 @@
 use mathlib.Core.Bool.{Bool, true, false}
 use mathlib.Core.List.{List}
 use mathlib.Core.Logic.{_↔_}
+use mathlib.Core.Option.{Option, some}
 use mathlib.Core.Path.{_≡_, refl, ap}
 use Prim.Native.Nat.{ℕ, _+_, _%_, _^_, _<_, _≤_}
 use lib.Count.{ones, trailingZeros}
-use lib.ListN.{getD, length, replicate}
+use lib.ListN.{getD, length, take, drop, replicate}
 use Rattle.bytes_le.specs.Little as bytes
 use Rattle.utf8.specs.Utf8.{Octets, isUtf8}
 use Rattle.utf8.proofs.Grammar.{takes, has}
 use Rattle.image.specs.Image.{byteAt, paddedLength, sumFrom, checksumOf}
-use Rattle.header.specs.Size.{mends, romFits}
+use Rattle.image.proofs.title.Reads as answered
+use Rattle.header.specs.Size.{mends, Power, romFits}
 use Rattle.header.specs.Check as header
 use Rattle.header.specs.Check.{checkOf}
 use Rattle.header.specs.Accepted.{Fitting, Agree}
 use Rattle.header.specs.declared.HeaderRefusal.{HeaderRefusal}
+use Rattle.header.specs.declared.HeaderRefusal.the-variants.{Beyond}
 use Rattle.header.specs.declared.Facts.{Facts}
 use Rattle.header.specs.declared.Checked.the-variants.{Accept, Refuse}
-use Rattle.header.proofs.SizeLaws.{Power, mends-power, power-mends}
+use Rattle.header.proofs.SizeLaws.{mends-power, power-mends}
 use Rattle.header.proofs.AcceptedLaws.{accepted-only, accepted-fits}
 use Rattle.header.proofs.LocalLaws.{same-verdict}
 use Rattle.banking.specs.Banks.{orOne}
 use Rattle.mbc1.specs.Registers as mbc1
+use Rattle.clock_block.specs.Layout.{blockIn}
+use Rattle.clock_block.specs.Waking.{late}
+use Rattle.battery.specs.Battery.{clockIn, hasClock}
+use Rattle.cartridge.specs.Fit.{InTime}
 use Rattle.cartridge.specs.declared.Cartridge.{Cartridge}
 use Rattle.mount.specs.Mount as mount
 use Rattle.mount.specs.Mount.{mountOf}
 use Rattle.mount.specs.declared.Mounted.{Mounted}
 use Rattle.mount.specs.declared.Mounted.the-variants as mounted
 use Rattle.bus.specs.Bus.{areaAfter}
-use Rattle.bus.specs.Run.{Access, Answer, Machine, stepOf, runOf}
+use Rattle.bus.specs.Run.{Access, Answer, Machine, stepOf, runOf, Ready}
 use Rattle.bus.specs.Run as run
 use Rattle.runs.specs.Padded.{padded}
 use Rattle.runs.specs.Limits.{Within}
-use Rattle.runs.specs.Calls.{Calls, Ready, AtMostOne}
+use Rattle.runs.specs.Game.{Game, Readable, begins}
+use Rattle.runs.specs.Calls.{Calls, AtMostOne}
 use Rattle.runs.specs.Calls as calls
 use Rattle.runs.proofs.ImageLaws as image
 use Rattle.runs.proofs.BusLaws as laws
@@ -44,15 +52,27 @@ use Rattle.original.specs.Machine.{ok, panic}
 use Rattle.original.specs.Cartridge as rust
 use Rattle.original.specs.Cartridge.{CartridgeError, taken, error, fromFile}
 use Rattle.original.specs.Same.{Same}
-use Rattle.original.specs.Domain.{Since, since, InDomain}
+use Rattle.original.specs.Domain.{Since}
 use Rattle.original.specs.Verdict.{numberOf, cartridgeOf, ImageInDomain}
-use Rattle.original.proofs.StepLaws.{RanSame}
 use Rattle.original.proofs.Original as original
-use Rattle.original.specs.Step.{originalRun}
-use Rattle.original.proofs.Original.{mountedMachine}
+use Rattle.original.specs.Step.{originalStep, originalRun}
 use Rattle.board.specs.Reach.{InReach}
-use Rattle.board.specs.Alike.{BoardAgrees}
+use Rattle.board.specs.Beside.{SameBoard}
+use Rattle.board.specs.Alike.{RunsBeside}
 use Rattle.board.proofs.Board as board
+use Rattle.refused.specs.Served.{Unserved}
+use Rattle.refused.specs.Beyond.{BeyondGives}
+use Rattle.refused.specs.Kept.{keptAnswers}
+use Rattle.refused.proofs.Refused as refused
+use Rattle.original_saves.specs.SramFile.{fromFileWith}
+use Rattle.original_saves.specs.Written.{WritesSame}
+use Rattle.original_saves.specs.Game.{given, ClockHolds, NothingDue, Unseen, CutHarmless, GameAgrees}
+use Rattle.original_saves.proofs.StopLaws as stop
+use Rattle.original_saves.proofs.Games as games
+use Rattle.player.specs.Header.{factsAfter}
+use Rattle.title_part.specs.Part.{TitlePart}
+use Rattle.title_part.specs.Answered.{AnswersTitle}
+use Rattle.title_part.proofs.Title as title
 use Rattle.promises.specs.PublicCalls.{factsIn}
 
 -- ---- Against the definitions
@@ -172,22 +192,85 @@ pub we-refuse-where-rust-errs : (image : List ℕ) (now : ℕ) → ImageInDomain
     → fromFile image now ≡ ok (error e) → (w : HeaderRefusal) × (checkOf image ≡ Refuse w) × (numberOf e ≡ header.numberOf w)
 we-refuse-where-rust-errs = original.erred-only
 
--- 6. "mapped byte and changed RAM .. for .. every sequence of bus accesses in 01's domain": an image of bytes that we mount, any list
--- of accesses of bytes that 15 and 16 don't refuse, and any answers xs that our calls give to it and leave n. The Rust takes the
--- image, never panics, gives the answers xs, "clock registers only as the clock section says", and leaves the RAM that we leave.
-pub calls-agree : (image ram : List ℕ) (wall : ℕ) (c : Cartridge) → bytes.Octets image → mountOf image ram wall ≡ mounted.To c
-    → (accesses : List Access) → calls.Octets accesses → InReach image (mountedMachine image ram wall c) (since 0 0) accesses
-    → {xs : List Answer} {n : Machine} → Calls image (mountedMachine image ram wall c) accesses xs n
-    → BoardAgrees image wall (mountedMachine image ram wall c) accesses xs n
-calls-agree = board.board-agrees
+-- 6. "mapped byte and changed RAM .. for .. every sequence of bus accesses in 01's domain": any game with its save file, or none, any list
+-- of accesses of bytes, refused ones among them, whatever the clock does, and any answers xs that our calls give to it and leave n. The
+-- Rust mounts the image, is given what we don't refuse, and never panics; it gives the answers xs, "clock registers only as the clock
+-- section says", leaves the RAM that we leave, and writes a save that begins with it (`GameAgrees`).
+pub game-agrees : (g : Game) (file : Option (List ℕ)) → Readable g file → CutHarmless g file → (accesses : List Access)
+    → calls.Octets accesses → Unseen g file accesses → {xs : List Answer} {n : Machine} → Calls (g .image) (begins g file) accesses xs n
+    → GameAgrees g file accesses xs n
+game-agrees = games.game-agrees
 
--- Where the whole sequence keeps the clock's clauses, the answers are ours and the clock too.
-pub inside-agrees : {image : List ℕ} {wall : ℕ} {m : Machine} {accesses : List Access} {xs : List Answer} {n : Machine}
-    → (a : BoardAgrees image wall m accesses xs n) → InDomain image m (since 0 0) accesses
-    → (originalRun (a .start) accesses ≡ ok (record { answers = xs; left = a .left })) × Same image (a .since) n (a .left)
-inside-agrees = board.inside-agrees
+-- Where the sequence keeps the clock's clauses, every answer is ours,
+pub inside-agrees : {g : Game} {file : Option (List ℕ)} {accesses : List Access} {xs : List Answer} {n : Machine}
+    → (a : GameAgrees g file accesses xs n) → ClockHolds g file accesses
+    → originalRun (a .start) (given g file accesses) ≡ ok (record { answers = keptAnswers xs; left = a .left })
+inside-agrees = games.inside-agrees
 
--- The same from any point of a game on, where the Rust's state goes with ours.
-pub run-agrees : {image : List ℕ} {past : Since} {m : Machine} {o : rust.Cartridge} → Ready image m → Same image past m o
-    → (accesses : List Access) → calls.Octets accesses → InDomain image m past accesses → RanSame image m o accesses
-run-agrees = original.run-same
+-- and every byte of the save exactly where no second is due.
+pub save-is-ours : {g : Game} {file : Option (List ℕ)} → Readable g file → {accesses : List Access} → calls.Octets accesses
+    → {xs : List Answer} {n : Machine} → Calls (g .image) (begins g file) accesses xs n → (a : GameAgrees g file accesses xs n)
+    → ClockHolds g file accesses → (now : ℕ) → NothingDue g file accesses n ↔ WritesSame n (a .left) now
+save-is-ours = games.save-is-ours
+
+-- The same from any point of a game on, where the Rust's state stands beside ours.
+pub run-agrees : {image : List ℕ} {past : Since} {m : Machine} {o : rust.Cartridge} {held : Type 0} → Ready image m
+    → SameBoard image (past .idle) m o → (held → Same image past m o) → (accesses : List Access) → calls.Octets accesses
+    → InReach image m past accesses → RunsBeside image m past held o accesses
+run-agrees = board.board-run
+
+-- 7. A save that we don't accept: the Rust reads none without a battery (18),
+pub rust-reads-no-save-without-battery : (g : Game) → g .cart .battery ≡ false → (file : Option (List ℕ))
+    → fromFileWith (g .image) (g .wall) file ≡ fromFile (g .image) (g .wall)
+rust-reads-no-save-without-battery = stop.no-battery-unread
+
+-- none that is shorter than the header's RAM (19),
+pub rust-reads-no-short-save : (g : Game) (save : List ℕ) → length save < g .cart .size
+    → fromFileWith (g .image) (g .wall) (some save) ≡ fromFile (g .image) (g .wall)
+rust-reads-no-short-save = stop.short-save-unread
+
+-- and panics where the time would pass 2^64 - 1 seconds (17).
+pub rust-panics-at-a-late-save : (g : Game) → g .cart .battery ≡ true → hasClock (clockIn (g .cart .mapper)) ≡ true → (save : List ℕ)
+    → g .cart .size ≤ length save → late (blockIn (drop (g .cart .size) save)) (g .wall) ≡ true
+    → fromFileWith (g .image) (g .wall) (some save) ≡ panic
+rust-panics-at-a-late-save = stop.late-save-stops
+
+-- Every other one of a cartridge with a timer it reads to the save's RAM, whatever stands behind it, with 20 too.
+pub rust-reads-the-ram : (g : Game) → g .cart .battery ≡ true → hasClock (clockIn (g .cart .mapper)) ≡ true → (save : List ℕ)
+    → g .cart .size ≤ length save → late (blockIn (drop (g .cart .size) save)) (g .wall) ≡ false
+    → (o : rust.Cartridge) × (fromFileWith (g .image) (g .wall) (some save) ≡ ok (taken o)) × (o .ram ≡ take (g .cart .size) save)
+rust-reads-the-ram = stop.timer-ram-read
+
+-- 8. Nothing is refused without need. Where 11 is given the Rust panics, or it is an MBC1 above 128 banks,
+pub rust-panics-at-11 : (image : List ℕ) (now : ℕ) → bytes.Octets image → checkOf image ≡ Refuse Beyond
+    → BeyondGives (header.rowOf (header.foundOf image) .1) (header.banksOf image) (fromFile image now)
+rust-panics-at-11 = refused.eleven-stops
+
+-- where 15 is given it serves no such address, in no state,
+pub rust-serves-no-15 : (rom : List ℕ) (m : Machine) (a : Access) → stepOf rom m a .answer ≡ run.refused 15 → Unserved a
+rust-serves-no-15 = refused.fifteen-unserved
+
+-- and at any point of a game it panics where 16 is given,
+pub rust-panics-at-16 : {g : Game} {file : Option (List ℕ)} {accesses : List Access} {xs : List Answer} {n : Machine}
+    → (x : GameAgrees g file accesses xs n) → (a : Access) → stepOf (g .image) n a .answer ≡ run.refused 16
+    → originalStep (x .left) a ≡ panic
+rust-panics-at-16 x = refused.sixteen-stops (x .beside)
+
+-- and where 17 is, of an advance.
+pub rust-panics-at-17 : {g : Game} {file : Option (List ℕ)} {accesses : List Access} {xs : List Answer} {n : Machine}
+    → (x : GameAgrees g file accesses xs n) → (k : ℕ) → InTime (n .cart .mapper) → stepOf (g .image) n (run.clocks k) .answer ≡ run.refused 17
+    → originalStep (x .left) (run.clocks k) ≡ panic
+rust-panics-at-17 x = refused.seventeen-stops (x .beside)
+
+-- 9. "the answer is that part of the caller's image": the title is the part from 0x134 of the accepted facts' length,
+pub title-is-a-part : (image : List ℕ) (d : Facts) → checkOf image ≡ Accept d → TitlePart image 0x134 (d .title)
+title-is-a-part = title.accepted-title
+
+-- where every answer of `image::title` lies,
+pub title-lies-there : AnswersTitle answered.Learnt (λ k a. a .0) (λ k r. r)
+title-lies-there = title.title-answers
+
+-- and the place and the length that the boundary hands out.
+pub boundary-title : (image facts : List ℕ) (d : Facts) → checkOf image ≡ Accept d
+    → TitlePart image (getD (factsAfter image facts) 8 0) (getD (factsAfter image facts) 9 0)
+boundary-title = title.boundary-title

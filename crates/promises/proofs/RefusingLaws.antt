@@ -8,9 +8,9 @@ use Prim.Native.Nat.{ℕ}
 use lib.Dec.{eqb}
 use lib.ListN.{length}
 use Rattle.facts.specs.Choice.{pick}
-use Rattle.facts.specs.Refusals.{No, no, firstNo, anyNo, inWords}
+use Rattle.facts.specs.Refusals.{No, no, firstNo, anyNo, inWords, First}
 use Rattle.facts.proofs.ChoiceLaws.{false≢true, pick-has}
-use Rattle.facts.proofs.RefusalLaws.{First, none-or-first, first-answers, none-accepts, given-first, first-map, first-append, first-said}
+use Rattle.facts.proofs.RefusalLaws.{none-or-first, first-answers, none-accepts, given-first, first-map, first-append, first-said}
 use Rattle.header.specs.Check.{checkOf}
 use Rattle.header.specs.Accepted.{testsOf}
 use Rattle.header.specs.declared.Checked.{Checked}

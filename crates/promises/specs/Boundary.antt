@@ -3,11 +3,10 @@ use mathlib.Core.Bool.{true}
 use mathlib.Core.List.{List}
 use mathlib.Core.Path.{_≡_}
 use Prim.Native.Nat.{ℕ}
-use Rattle.cartridge.specs.Fit.{fitCart}
+use Rattle.cartridge.specs.Fit.{fitCart, InTime}
 use Rattle.cartridge.specs.declared.Cartridge.{Cartridge}
 use Rattle.states.specs.Layout.{encodeOf}
 use Rattle.states.specs.Reading.{decodeOf}
-use Rattle.states.specs.Widths.{InTime}
 use Rattle.states.specs.declared.Decoded.the-variants.{To}
 
 -- bytes that were written for a fit cartridge, its time of 64 bits

@@ -4,8 +4,7 @@ use mathlib.Core.Bool.{false}
 use mathlib.Core.List.{List, map}
 use mathlib.Core.Path.{_≡_}
 use Prim.Native.Nat.{ℕ}
-use Rattle.facts.specs.Refusals.{No, anyNo}
-use Rattle.facts.proofs.RefusalLaws.{First}
+use Rattle.facts.specs.Refusals.{No, anyNo, First}
 
 -- a call on some input, with refusals R and answers A
 pub record Call (R A : Type 0) : Type 0 where

@@ -22,7 +22,7 @@ use Rattle.access.specs.Verdict.{numberOf, inRom, inRam, verdictOf}
 use Rattle.cartridge.specs.With.{withMapper}
 use Rattle.bus.specs.Bus.{lentBoth, lentArea, readVerdict, writeVerdict, readBy, readOf, writeBy, writeOf, areaAfter}
 use Rattle.bus.specs.Advance.{advanceOf}
-use Rattle.bus.specs.Run.{Access, Answer, Machine, Left, afterRead, afterWrite, afterClocks, stepOf, runOf}
+use Rattle.bus.specs.Run.{Access, Answer, Machine, Left, afterRead, afterWrite, afterClocks, stepOf, runOf, Ready}
 use Rattle.bus.specs.Run as run
 use Rattle.access.specs.declared.BusRefusal.the-variants.{Unfit, WrongLength, BadAddress, BadSelection}
 use Rattle.access.specs.declared.Verdict.{Verdict}
@@ -34,7 +34,7 @@ use Rattle.bus.specs.declared.WriteAnswer.the-variants as write
 use Rattle.bus.specs.declared.Advanced.{Advanced}
 use Rattle.bus.specs.declared.Advanced.the-variants as advanced
 use Rattle.access.proofs.Laws.{by-tests}
-use Rattle.runs.specs.Calls.{Called, Calls, Octet, Octets, Ready, Neither, AllNeither}
+use Rattle.runs.specs.Calls.{Called, Calls, Octet, Octets, Neither, AllNeither}
 use Rattle.runs.specs.Calls as calls
 use Rattle.runs.proofs.MapperLaws as kept
 use Rattle.runs.proofs.BusLaws.{write-taken, write-fit, write-area-stays, write-one, refused-area, one-length, advance-taken, advance-fit, mount-taken, mount-fit}

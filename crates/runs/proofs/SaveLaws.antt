@@ -43,8 +43,7 @@ use Rattle.save_file.specs.declared.SaveRefusal.the-variants.{Unfit, WrongLengt
 use Rattle.save_file.specs.declared.Saved.the-variants as saved
 use Rattle.save_file.specs.declared.Loaded.{Loaded}
 use Rattle.save_file.specs.declared.Loaded.the-variants.{Whole, RamOnly, Refuse}
-use Rattle.bus.specs.Run.{Machine}
-use Rattle.runs.specs.Calls.{Ready}
+use Rattle.bus.specs.Run.{Machine, Ready}
 use Rattle.runs.specs.Time.{SameTime}
 use Rattle.runs.specs.Saves.{Kept, Back}
 use Rattle.runs.proofs.MapperLaws as kept

@@ -1,11 +1,9 @@
 -- Calls of the bus made one after the other, each answered as its contract allows, and at most one byte changed.
 use mathlib.Core.List.{List, [], _∷_}
 use mathlib.Core.Logic.{_⊎_}
-use mathlib.Core.Bool.{true}
 use mathlib.Core.Path.{_≡_}
 use Prim.Native.Nat.{ℕ, _<_}
-use lib.ListN.{length, set}
-use Rattle.cartridge.specs.Fit.{fitCart, areaOf}
+use lib.ListN.{set}
 use Rattle.bus.specs.Bus.{readOf, writeOf, areaAfter}
 use Rattle.bus.specs.Advance.{advanceOf}
 use Rattle.bus.specs.Run.{
@@ -34,12 +32,6 @@ pub data Calls (rom : List ℕ) : Machine → List Access → List Answer → Ma
   end : {m : Machine} → Calls rom m [] [] m
   call : {m n : Machine} {a : Access} {as′ : List Access} {x : Left} {xs : List Answer} → Called rom m a x
       → Calls rom (x .left) as′ xs n → Calls rom m (a ∷ as′) (x .answer ∷ xs) n
-
--- a fit cartridge that is lent the image and the area it was mounted with
-pub record Ready (rom : List ℕ) (m : Machine) : Type 0 where
-  pub fit : fitCart (m .cart) ≡ true
-  pub image : length rom ≡ m .cart .length
-  pub area : length (m .area) ≡ areaOf (m .cart)
 
 -- a byte of eight bits in every write
 abbrev pub Octet : Access → Type 0

@@ -4,3 +4,4 @@ pub mod Calls
 pub mod Time
 pub mod Advances
 pub mod Saves
+pub mod Game

@@ -4,13 +4,13 @@ use mathlib.Core.Bool.{true}
 use mathlib.Core.Path.{_≡_, sym, ap, _∙_}
 use lib.ListN.{length, replicate}
 use Rattle.bytes_le.specs.Little.{Octets}
-use Rattle.cartridge.specs.Fit.{fitCart}
+use Rattle.cartridge.specs.Fit.{fitCart, InTime}
 use Rattle.cartridge.specs.With.{withMapper}
 use Rattle.cartridge.specs.declared.Cartridge.{Cartridge}
 use Rattle.states.specs.Layout.{fieldsOf, encodeOf}
 use Rattle.states.specs.Reading.{decodeOf}
 use Rattle.states.specs.Plain.{plain, Used}
-use Rattle.states.specs.Widths.{Widths, InTime}
+use Rattle.states.specs.Widths.{Widths}
 use Rattle.states.specs.declared.Decoded.{Decoded}
 use Rattle.states.specs.declared.Decoded.the-variants.{To, NoState}
 use Rattle.state_fields.proofs.StoredLaws.{stored-length, stored-octets, zero-octets}

@@ -24,10 +24,10 @@ use Rattle.mbc5.specs.Registers as mbc5
 use Rattle.mapper.specs.Mappers as mapper
 use Rattle.mapper.specs.declared.Mapper.{Mapper}
 use Rattle.mapper.specs.declared.Mapper.the-variants.{NoMapper, Mbc1, Mbc2, Mbc3, Mbc5}
-use Rattle.cartridge.specs.Fit.{bankCounts, fitCart, fitBoard}
+use Rattle.cartridge.specs.Fit.{bankCounts, fitCart, fitBoard, InTime}
 use Rattle.cartridge.proofs.Laws.{fit-board, fit-padded, fit-registers}
 use Rattle.cartridge.specs.declared.Cartridge.{Cartridge}
-use Rattle.states.specs.Widths.{RegisterWidths, TimerWidths, MapperWidths, InTime, Widths}
+use Rattle.states.specs.Widths.{RegisterWidths, TimerWidths, MapperWidths, Widths}
 
 register-widths : (r : Registers) → fit-clock-registers.fitRegisters r ≡ true → RegisterWidths r
 register-widths r e =

@@ -39,11 +39,3 @@ pub record Widths (c : Cartridge) : Type 0 where
   pub banks : c .banks < 65536
   pub size : c .size < 2 ^ 64
   pub mapper : MapperWidths (c .mapper)
-
--- the one width that a fit cartridge need not keep: a clock's time
-abbrev pub InTime : Mapper → Type 0
-InTime (NoMapper m) = Unit {0}
-InTime (Mbc1 m) = Unit {0}
-InTime (Mbc2 m) = Unit {0}
-InTime (Mbc3 m) = m .timer ≡ true → m .clock .time < 2 ^ 64
-InTime (Mbc5 m) = Unit {0}

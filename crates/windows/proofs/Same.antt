@@ -42,6 +42,7 @@ use Rattle.access.specs.declared.BusRefusal.{BusRefusal}
 use Rattle.access.specs.declared.BusRefusal.the-variants.{Unfit, WrongLength, BadAddress, BadSelection}
 use Rattle.access.proofs.Laws.{by-tests, rom-window, above-rom, ram-window, below-ram, above-ram}
 use Rattle.bus.specs.Bus as bus
+use Rattle.bus.specs.Run.{Ready}
 use Rattle.bus.specs.declared.ReadAnswer.{ReadAnswer}
 use Rattle.bus.specs.declared.ReadAnswer.the-variants as answer
 use Rattle.bus.specs.declared.WriteAnswer.the-variants as written
@@ -52,18 +53,12 @@ use Rattle.windows.specs.declared.Put.the-variants as put
 use Rattle.windows.proofs.Laws as laws
 use Rattle.windows.proofs.Moving.{way-moves, way-seen, way-stored, way-put, mapper-stays}
 
--- a fit cartridge, and what is lent has the mounted lengths
-pub record Lent (c : Cartridge) (rom ram : List ℕ) : Type 0 where
-  pub fit : fitCart c ≡ true
-  pub image : length rom ≡ c .length
-  pub area : length ram ≡ areaOf c
-
 -- ---- what the bus answers, by the window
 
-lent-both : (c : Cartridge) (rom ram : List ℕ) → Lent c rom ram → bus.lentBoth c (length rom) (length ram) ≡ true
+lent-both : (c : Cartridge) (rom ram : List ℕ) → Ready rom (record { cart = c; area = ram }) → bus.lentBoth c (length rom) (length ram) ≡ true
 lent-both c rom ram l = both-true (eq-eqb _ _ (l .image)) (eq-eqb _ _ (l .area))
 
-module _ (c : Cartridge) (rom ram : List ℕ) (addr : ℕ) (l : Lent c rom ram) where
+module _ (c : Cartridge) (rom ram : List ℕ) (addr : ℕ) (l : Ready rom (record { cart = c; area = ram })) where
   bus-rom : addr < 0x8000 → bus.readOf c rom ram addr ≡ answer.Byte (bus.romByte c rom addr)
   unfolding bus.readOf bus.readVerdict
   bus-rom h =
@@ -102,7 +97,7 @@ rom-seen banks m addr = go (ltb addr 0x4000)
 
 -- ---- "for every address, reading through the windows gives what the state gives", and asks where a clock register stands
 
-module _ (c : Cartridge) (rom ram : List ℕ) (addr : ℕ) (l : Lent c rom ram) where
+module _ (c : Cartridge) (rom ram : List ℕ) (addr : ℕ) (l : Ready rom (record { cart = c; area = ram })) where
   -- the answer that is promised, by whether the address is in the RAM window
   abbrev Sees : Type 0
   Sees = seenOf (windowsOf c) rom ram addr ≡ pick (both (inRam addr) (asksOf c)) seen.Ask (fromRead (bus.readOf c rom ram addr))

@@ -1,0 +1,157 @@
+-- Whole games against the Rust itself: what it reads of a save that we accept, what it answers, and what it writes. Assumes nothing.
+use mathlib.Core.Bool.{Bool, true, false}
+use mathlib.Core.List.{List, [], _++_}
+use mathlib.Core.Logic.{_⊎_, inl, inr, _↔_}
+use mathlib.Core.Option.{Option, none, some}
+use mathlib.Core.Path.{_≡_, refl, sym, ap, _∙_, subst}
+use Prim.Native.Nat.{ℕ, zero, suc, _<_, _≤_}
+use native.Mathlib.Omega.{arith}
+use lib.ListN.{length, take, drop, drop-of-length-le}
+use lib.Seq.{take-at}
+use Rattle.facts.specs.Choice.{pick}
+use Rattle.facts.proofs.RefusalLaws.{none-if, none-accepts}
+use Rattle.bytes_le.specs.Little.{valueOf, fieldAt}
+use Rattle.clock_registers.specs.declared.Registers.{Registers}
+use Rattle.clock.specs.declared.Clock.{Clock}
+use Rattle.clock_block.specs.Layout.{blockIn}
+use Rattle.clock_block.specs.Waking.{takenOf, blockOf}
+use Rattle.clock_block.proofs.BackLaws.{woken-same, kept-time}
+use Rattle.cartridge.specs.declared.Cartridge as our
+use Rattle.save_file.specs.Save.{bytesOf, saveNoes, saveOf, roomAfter, roomBy}
+use Rattle.save_file.specs.declared.Saved.{Saved}
+use Rattle.save_file.specs.declared.Saved.the-variants.{Wrote, Refuse}
+use Rattle.bus.specs.Run.{Access, Answer, Machine, Ready}
+use Rattle.runs.specs.Game.{Game, mountedMachine, answerTo, Readable, begins}
+use Rattle.runs.specs.Calls.{Calls}
+use Rattle.runs.specs.Calls as calls
+use Rattle.runs.proofs.RunLaws.{mount-ready}
+use Rattle.original.specs.Machine.{Outcome, ok, u64}
+use Rattle.original.specs.Cartridge.{Cartridge, Result, taken}
+use Rattle.original.specs.Step.{originalRun}
+use Rattle.original.specs.Verdict.{cartridgeOf}
+use Rattle.original.proofs.StartLaws.{start-same}
+use Rattle.board.proofs.Board.{same-beside, all-held}
+use Rattle.refused.specs.Kept.{keptAnswers}
+use Rattle.original_saves.specs.SramFile.{loadSramFile, loadSave, readInto, saveSramFile}
+use Rattle.original_saves.specs.Written.{WritesSame}
+use Rattle.original_saves.specs.ReadIn.{Harmless, CutBlock, Prompt}
+use Rattle.original_saves.specs.Game.{ClockHolds, NothingDue, Unseen, CutHarmless, ClockBegins, given, pastOf, GameAgrees}
+use Rattle.original_saves.proofs.WrittenLaws.{writes-same, due-parts}
+use Rattle.original_saves.proofs.LoadLaws.{accepted-so, load-ready-any}
+use Rattle.original_saves.proofs.ReadInLaws.{mounted-battery, reads-beside}
+use Rattle.original_saves.proofs.StopLaws.{with-read}
+use Rattle.original_saves.proofs.GameLaws.{game, left-ready}
+
+-- ---- 1. the game
+
+-- a file that can't be opened is none
+no-file : (o : Cartridge) → readInto none (taken o) ≡ ok (taken o)
+unfolding loadSave loadSramFile
+no-file o = go (o .type .battery)
+  where
+    go : (t : Bool) → _≡_ {A = Outcome Result} (pick t (ok (taken o)) (ok (taken o))) (ok (taken o))
+    go true = refl
+    go false = refl
+
+pub game-ready : (g : Game) (file : Option (List ℕ)) → Readable g file → Ready (g .image) (begins g file)
+game-ready g none r = mount-ready (g .image) (g .area) (g .wall) (g .cart) (g .mounts)
+game-ready g (some save) r =
+    load-ready-any save (g .wall) (mount-ready (g .image) (g .area) (g .wall) (g .cart) (g .mounts))
+    (accepted-so (answerTo (mountedMachine g) save (g .wall)) (r .1))
+
+-- Any game with its save file, or none, any list of accesses of bytes, and any answers that our calls give and leave n.
+pub game-agrees : (g : Game) (file : Option (List ℕ)) → Readable g file → CutHarmless g file → (accesses : List Access)
+    → calls.Octets accesses → Unseen g file accesses → {xs : List Answer} {n : Machine} → Calls (g .image) (begins g file) accesses xs n
+    → GameAgrees g file accesses xs n
+game-agrees g none r c accesses b u made =
+    let x = start-same g in
+    let o = cartridgeOf (g .image) (g .wall) (x .facts) in
+    game g none o (with-read g none ∙ no-file o) (mounted-battery g (x .facts) (x .accepted)) (game-ready g none r) (same-beside (x .same))
+    (λ _. x .same) accesses b u made
+game-agrees g (some save) r c accesses b u made =
+    let x = reads-beside g save (r .0) (accepted-so (answerTo (mountedMachine g) save (g .wall)) (r .1)) c in
+    game g (some save) (x .start) (x .takes) (x .battery) (game-ready g (some save) r) (x .beside) (goes (x .same)) accesses b u made
+  where
+    goes : {A B : Type 0} → (A → B) → ⊥ ⊎ A → B
+    goes f (inl h) = absurd h
+    goes f (inr h) = f h
+
+-- Inside the clock's domain every answer is ours.
+pub inside-agrees : {g : Game} {file : Option (List ℕ)} {accesses : List Access} {xs : List Answer} {n : Machine}
+    → (a : GameAgrees g file accesses xs n) → ClockHolds g file accesses
+    → originalRun (a .start) (given g file accesses) ≡ ok (record { answers = keptAnswers xs; left = a .left })
+inside-agrees {g} {file} {accesses} {xs} a h =
+    let e =
+    all-held (g .image) (begins g file) (pastOf g file) (ClockBegins g file) (given g file accesses) (keptAnswers xs) (a .answers)
+    (h .0) (h .1) (a .alike) in
+    a .runs ∙ ap (λ (ys : List Answer). ok (record { answers = ys; left = a .left })) (sym e)
+
+-- ---- 2. the save that is then written
+
+-- Inside the clock's domain every byte of it is ours exactly where "an unlatched clock read follows each completed second before the ..
+-- save": with a second due no save is.
+pub save-is-ours : {g : Game} {file : Option (List ℕ)} → Readable g file → {accesses : List Access} → calls.Octets accesses
+    → {xs : List Answer} {n : Machine} → Calls (g .image) (begins g file) accesses xs n → (a : GameAgrees g file accesses xs n)
+    → ClockHolds g file accesses → (now : ℕ) → NothingDue g file accesses n ↔ WritesSame n (a .left) now
+save-is-ours {g} {file} r {accesses} b made a h now =
+    let ready = left-ready g file (game-ready g file r) accesses b made in (
+      (λ due. writes-same ready (a .same h) due now),
+      (λ w t. none-due _ (λ n. due-parts ready (a .same h) t n now w)),
+    )
+  where
+    none-due : (k : ℕ) → ((k ≡ 0 → ⊥) → ⊥) → k ≡ 0
+    none-due zero f = refl
+    none-due (suc k) f = absurd (f (λ e. omega arith))
+
+-- Our call's room then begins with the Rust's file.
+abbrev wrote : Saved → Bool
+wrote (Wrote n) = true
+wrote (Refuse w) = false
+
+wrote-all : (c : our.Cartridge) (ram : List ℕ) (room now k : ℕ) → saveOf c ram room now ≡ Wrote k
+    → length (bytesOf (c .mapper) ram now) ≡ k
+unfolding saveOf
+wrote-all c ram room now k e =
+    let a = Wrote (length (bytesOf (c .mapper) ram now)) in
+    let none = none-if wrote Refuse (λ w. refl) (saveNoes c ram room now) a (ap wrote e) in
+    let is = sym (none-accepts Refuse a (saveNoes c ram room now) none) ∙ e in
+    cc
+
+pub room-is-file : (m : Machine) (o : Cartridge) (now : ℕ) → WritesSame m o now → (room : List ℕ) (k : ℕ)
+    → saveOf (m .cart) (m .area) (length room) now ≡ Wrote k
+    → saveSramFile o now ≡ ok (take k (roomAfter (m .cart) (m .area) room now))
+unfolding roomAfter
+room-is-file m o now w room k e =
+    let b = bytesOf (m .cart .mapper) (m .area) now in
+    w
+    ∙ ap ok
+    (sym
+    (ap (λ (x : Saved). take k (roomBy b room x)) e
+    ∙ take-at b (drop k room) k (wrote-all (m .cart) (m .area) (length room) now k e)))
+
+-- ---- 3. what is asked of a save that is read
+
+empty-harmless : (wall : ℕ) → wall < u64 → Harmless (blockIn []) wall
+unfolding blockIn fieldAt valueOf
+empty-harmless wall h = record { second = omega arith; minute = omega arith; hour = omega arith; offset = refl; early = h }
+
+-- Of a block that is cut short: it holds where no byte stands behind the RAM area.
+pub no-block-harmless : (m : Machine) (save : List ℕ) (wall : ℕ) → wall < u64 → length save ≤ length (m .area) → CutBlock m save wall
+no-block-harmless m save wall h l _ _ =
+    let none = drop-of-length-le save l in
+    subst (λ (s : List ℕ). Harmless (blockIn s) wall) (sym none) (empty-harmless wall h)
+
+-- Of the clock: "if the saved time was not behind the wall time on saving and the wall time is the same on reading", it holds of what
+-- we save, but for minute 60 and hour 24.
+pub way-back-prompt : (k : Clock) (wall : ℕ) → wall ≤ k .time → (k .running .minute ≡ 60 → ⊥) → (k .running .hour ≡ 24 → ⊥)
+    → Prompt (blockOf k wall) wall
+unfolding blockOf takenOf
+way-back-prompt k wall h minute hour =
+    let time = kept-time k wall h in
+    record {
+      not-behind = omega (arith, time);
+      few = omega (arith, time);
+      minute = minute;
+      hour = hour;
+      clear = ap (λ (r : Registers). r .carry) (woken-same (blockOf k wall) wall (omega (arith, time)));
+    }
