@@ -32,7 +32,7 @@ use Rattle.header.proofs.CheckLaws.{no-1}
 use Rattle.mapper.specs.Mappers as mapper
 use Rattle.window.specs.Window.{wayOf, Within}
 use Rattle.window.proofs.Laws.{way-within}
-use Rattle.battery.specs.Battery.{clockIn, hasBlock, batterySize}
+use Rattle.battery.specs.Battery.{clockIn, batterySize}
 use Rattle.cartridge.specs.Fit.{fitCart, areaOf}
 use Rattle.cartridge.specs.declared.Cartridge.{Cartridge}
 use Rattle.cartridge.proofs.Laws.{fit-banks, fit-padded}
@@ -145,15 +145,13 @@ pub ask-room-refuses : (c : Cartridge) → Refusing (13 ∷ 18 ∷ []) (sizing c
 unfolding roomFor
 ask-room-refuses c = by-first (sizing c) refl (λ v w e. cc) (λ w e. cc) refl (λ w e. refl)
 
--- `save_file::load`, of any lent area, any save bytes and any wall time: "Save file in: 13, 14 (RAM), 18, 19, 20, 17", the last two
--- where there is a block to read.
+-- `save_file::load`, of any lent area, any save bytes and any wall time: "Save file in: 13, 14 (RAM), 18, 19, 20, 17".
 pub load-refuses : (c : Cartridge) (ram bytes : List ℕ) (wall : ℕ)
-    → Refusing (pick (hasBlock (c .mapper) (drop (length ram) bytes)) (13 ∷ 14 ∷ 18 ∷ 19 ∷ 20 ∷ 17 ∷ []) (13 ∷ 14 ∷ 18 ∷ 19 ∷ []))
-    (loading c ram bytes wall)
-unfolding loadOf load.areaAfter
+    → Refusing (13 ∷ 14 ∷ 18 ∷ 19 ∷ 20 ∷ 17 ∷ []) (loading c ram bytes wall)
+unfolding loadOf loadNoes admitNoes block.blockNoes load.areaAfter
 load-refuses c ram bytes wall =
-    by-first (loading c ram bytes wall) refl (λ v w e. cc) (load-taken c (drop (length ram) bytes) wall)
-    (saves.noes-numbers c (length ram) bytes wall) (λ w e. ap (load.areaBy ram bytes) e)
+    by-first (loading c ram bytes wall) refl (λ v w e. cc) (load-taken c (drop (length ram) bytes) wall) refl
+    (λ w e. ap (load.areaBy ram bytes) e)
 
 -- `Block::wake`, of a block alone.
 pub wake-refuses : (b : Block) (wall : ℕ) → Refusing (20 ∷ 17 ∷ []) (waking b wall)

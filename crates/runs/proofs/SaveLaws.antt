@@ -1,6 +1,6 @@
 -- Accepted loads, taken apart; what they leave fit; and what comes back. Assumes nothing.
 use mathlib.Core.Bool.{Bool, true, false, not}
-use mathlib.Core.List.{List, [], _∷_, _++_, map, append-assoc, append-nil}
+use mathlib.Core.List.{List, _++_, append-assoc, append-nil}
 use mathlib.Core.Path.{_≡_, refl, sym, ap, _∙_}
 use Prim.Native.Nat.{ℕ, _+_, _^_, _<_, _≤_}
 use native.Mathlib.Omega.{arith}
@@ -9,7 +9,7 @@ use lib.ListN.{length, getD, take, drop, length-append, length-drop, take-append
 use lib.Seq.{take-at, drop-at, take-add, length-take-le}
 use borrow.Author.Tests.{eq-eqb, le-ltb, le-leb, leb-true, ltb-false}
 use Rattle.facts.specs.Choice.{pick}
-use Rattle.facts.specs.Refusals.{No, no, firstNo, anyNo}
+use Rattle.facts.specs.Refusals.{no, firstNo, anyNo}
 use Rattle.facts.proofs.ChoiceLaws.{false≢true, both-true, both-left, both-right, not-false}
 use Rattle.facts.proofs.RefusalLaws.{none-if, none-at, none-accepts}
 use Rattle.bytes_le.specs.Little.{Octets}
@@ -23,10 +23,8 @@ use Rattle.clock.proofs.FitLaws.{fit-parts}
 use Rattle.clock_block.specs.Layout.{blockBytes, blockIn}
 use Rattle.clock_block.specs.Waking.{blockOf, takenOf, timeOf, wokenOf, beyond, late, blockNoes}
 use Rattle.clock_block.specs.declared.Block.{Block}
-use Rattle.clock_block.specs.declared.BlockRefusal.the-variants as block
 use Rattle.clock_block.proofs.Laws.{length-block}
 use Rattle.clock_block.proofs.BackLaws.{Narrow, block-back, bytes-back, woken-fit, woken-same, kept-time, again-time, again-same}
-use Rattle.mapper.specs.Mappers as mapper
 use Rattle.mapper.specs.declared.Mapper.{Mapper}
 use Rattle.battery.specs.Battery.{clockIn, hasClock, hasBlock, withClock, batteryBytes}
 use Rattle.battery.specs.declared.Timer.{Timer}
@@ -35,14 +33,14 @@ use Rattle.cartridge.specs.Fit.{fitCart, areaOf}
 use Rattle.cartridge.specs.With.{withMapper}
 use Rattle.cartridge.specs.declared.Cartridge.{Cartridge}
 use Rattle.cartridge.proofs.Laws.{fit-registers}
-use Rattle.save_file.specs.Admit.{numberOf, admitNoes}
+use Rattle.save_file.specs.Admit.{admitNoes}
 use Rattle.save_file.specs.Save.{bytesOf, saveNoes, saveOf}
 use Rattle.save_file.specs.Load.{acceptedOf, loadNoes, loadOf, areaAfter, areaBy}
-use Rattle.save_file.specs.declared.SaveRefusal.{SaveRefusal}
-use Rattle.save_file.specs.declared.SaveRefusal.the-variants.{Unfit, WrongLength, NoBattery, ShortSave, Block as InBlock}
+use Rattle.save_file.specs.declared.SaveRefusal.the-variants.{Unfit}
 use Rattle.save_file.specs.declared.Saved.the-variants as saved
 use Rattle.save_file.specs.declared.Loaded.{Loaded}
 use Rattle.save_file.specs.declared.Loaded.the-variants.{Whole, RamOnly, Refuse}
+use Rattle.save_file.proofs.Laws.{only-held}
 use Rattle.bus.specs.Run.{Machine, Ready}
 use Rattle.runs.specs.Time.{SameTime}
 use Rattle.runs.specs.Saves.{Kept, Back}
@@ -70,67 +68,44 @@ module _ (c : Cartridge) (area : ℕ) (save : List ℕ) (wall : ℕ) where
   abbrev read : Block
   read = blockIn (drop area save)
 
-  -- the answer of an accepted load, and the tests, by whether there is a block
+  -- the answer of an accepted load, by whether there is a block
   abbrev answerBy : Bool → Loaded
   answerBy t = pick t (Whole (withMapper c (withClock (c .mapper) (wokenOf read wall)))) RamOnly
-
-  abbrev noesBy : Bool → List (No SaveRefusal)
-  noesBy t =
-      no (not (fitCart c)) Unfit
-      ∷ no (not (eqb area (areaOf c))) WrongLength
-      ∷ no (not (c .battery)) NoBattery
-      ∷ no (ltb (length save) area) ShortSave
-      ∷ pick t (no (beyond read) (InBlock block.Beyond) ∷ no (late read wall) (InBlock block.Late) ∷ []) []
-
-  noes-by : {t : Bool} → hasBlock (c .mapper) (drop area save) ≡ t → loadNoes c area save wall ≡ noesBy t
-  unfolding loadNoes admitNoes blockNoes
-  noes-by e = ap noesBy e
-
-  -- the numbers, the last two where there is a block
-  pub noes-numbers : map (λ (t : No SaveRefusal). numberOf (t .why)) (loadNoes c area save wall)
-      ≡ pick (hasBlock (c .mapper) (drop area save)) (13 ∷ 14 ∷ 18 ∷ 19 ∷ 20 ∷ 17 ∷ []) (13 ∷ 14 ∷ 18 ∷ 19 ∷ [])
-  noes-numbers = ap (map (λ (t : No SaveRefusal). numberOf (t .why))) (noes-by refl) ∙ go (hasBlock (c .mapper) (drop area save))
-    where
-      go : (t : Bool) → map (λ (x : No SaveRefusal). numberOf (x .why)) (noesBy t)
-          ≡ pick t (13 ∷ 14 ∷ 18 ∷ 19 ∷ 20 ∷ 17 ∷ []) (13 ∷ 14 ∷ 18 ∷ 19 ∷ [])
-      go true = refl
-      go false = refl
 
   answer-by : {t : Bool} → hasBlock (c .mapper) (drop area save) ≡ t → acceptedOf c (drop area save) wall ≡ answerBy t
   unfolding acceptedOf
   answer-by e = ap answerBy e
 
   pub load-taken : (d : Cartridge) → loadOf c area save wall ≡ Whole d → TakenLoad c d area save wall
-  unfolding loadOf
+  unfolding loadOf loadNoes admitNoes blockNoes
   load-taken d e =
-      let none = none-if isWhole Refuse (λ w. refl) (loadNoes c area save wall) (acceptedOf c (drop area save) wall) (ap isWhole e) in
-      let taken = sym (none-accepts Refuse (acceptedOf c (drop area save) wall) (loadNoes c area save wall) none) ∙ e in
-      go (hasBlock (c .mapper) (drop area save)) refl (sym (ap anyNo (noes-by refl)) ∙ none) (sym (answer-by refl) ∙ taken)
+      let tests = loadNoes c area save wall in
+      let none = none-if isWhole Refuse (λ w. refl) tests (acceptedOf c (drop area save) wall) (ap isWhole e) in
+      let taken = sym (none-accepts Refuse (acceptedOf c (drop area save) wall) tests none) ∙ e in
+      go (λ i. none-at tests i (no false Unfit) refl none) (hasBlock (c .mapper) (drop area save)) refl (sym (answer-by refl) ∙ taken)
     where
-      go : (t : Bool) → hasBlock (c .mapper) (drop area save) ≡ t → anyNo (noesBy t) ≡ false → answerBy t ≡ Whole d
-          → TakenLoad c d area save wall
-      go true h n q =
-          let clear : (i : ℕ) → getD (noesBy true) i (no false Unfit) .holds ≡ false = λ i. none-at (noesBy true) i (no false Unfit) refl n in
+      go : ((i : ℕ) → getD (loadNoes c area save wall) i (no false Unfit) .holds ≡ false)
+          → (t : Bool) → hasBlock (c .mapper) (drop area save) ≡ t → answerBy t ≡ Whole d → TakenLoad c d area save wall
+      go clear true h q =
           record {
             fit = not-false (fitCart c) (clear 0);
             lent = not-false (eqb area (areaOf c)) (clear 1);
             long = clear 3;
             block = h;
-            registers = not-false (fitRegisters (takenOf read)) (clear 4);
-            early = clear 5;
+            registers = not-false (fitRegisters (takenOf read)) (only-held h (clear 4));
+            early = only-held h (clear 5);
             is = cc;
           }
-      go false h n q = let z : _≡_ {A = ℕ} 0 1 = cc in absurd (omega arith)
+      go clear false h q = let z : _≡_ {A = ℕ} 0 1 = cc in absurd (omega arith)
 
   -- and put together
   pub load-accepts : fitCart c ≡ true → eqb area (areaOf c) ≡ true → c .battery ≡ true → ltb (length save) area ≡ false
       → hasBlock (c .mapper) (drop area save) ≡ true → beyond read ≡ false → late read wall ≡ false
       → loadOf c area save wall ≡ answerBy true
-  unfolding loadOf
+  unfolding loadOf loadNoes admitNoes blockNoes
   load-accepts fit lent battery long h in′ early =
-      let none : anyNo (noesBy true) ≡ false = rw (fit, lent, battery, long, in′, early) refl in
-      none-accepts Refuse (acceptedOf c (drop area save) wall) (loadNoes c area save wall) (ap anyNo (noes-by h) ∙ none)
-      ∙ answer-by h
+      let none : anyNo (loadNoes c area save wall) ≡ false = rw (fit, lent, battery, long, h, in′, early) refl in
+      none-accepts Refuse (acceptedOf c (drop area save) wall) (loadNoes c area save wall) none ∙ answer-by h
 
 -- ---- it leaves a fit cartridge, and the area its length
 

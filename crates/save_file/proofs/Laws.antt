@@ -9,7 +9,7 @@ use lib.ListN.{length, take, drop, length-append, drop-of-length-le}
 use lib.Seq.{take-all, length-take-le, take-at, drop-at, drop-drop}
 use borrow.Author.Tests.{lt-ltb, le-ltb}
 use borrow.Rule.Slice.PartMut.{putMid}
-use Rattle.facts.specs.Choice.{pick}
+use Rattle.facts.specs.Choice.{pick, both}
 use Rattle.facts.specs.Refusals.{no, firstNo, inWords}
 use Rattle.facts.proofs.ListLaws.{part-from, part-back}
 use Rattle.facts.proofs.RefusalLaws.{first-map, first-append, first-said}
@@ -27,7 +27,7 @@ use Rattle.cartridge.specs.With.{withMapper}
 use Rattle.cartridge.specs.declared.Cartridge.{Cartridge}
 use Rattle.save_file.specs.Admit.{admitNoes, admitOf}
 use Rattle.save_file.specs.Save.{bytesOf, roomNoes, savedOf, roomBy, saveNoes, saveOf, roomAfter, roomFor}
-use Rattle.save_file.specs.Load.{behindNoes, bytesNoes, acceptedOf, loadedOf, areaBy, loadNoes, loadOf, areaAfter}
+use Rattle.save_file.specs.Load.{onlyWhere, behindNoes, bytesNoes, acceptedOf, loadedOf, areaBy, loadNoes, loadOf, areaAfter}
 use Rattle.save_file.specs.declared.SaveRefusal.{SaveRefusal}
 use Rattle.save_file.specs.declared.SaveRefusal.the-variants.{Unfit, WrongLength, NoBattery, ShortSave, Block, ShortRoom}
 use Rattle.save_file.specs.declared.Admitted.{Admitted}
@@ -157,6 +157,10 @@ copied ram save h =
     ∙ append-nil part
     ∙ ap (λ (k : ℕ). take k save) z
 
+-- a test held only where t is, there
+pub only-held : {t b : Bool} → t ≡ true → both t b ≡ false → b ≡ false
+only-held {b = b} h e = sym (ap (λ (t : Bool). both t b) h) ∙ e
+
 -- the battery's answer, as the cartridge's
 abbrev pub fromBattery : Cartridge → declared.Loaded → Loaded
 fromBattery c (behind.To m) = loaded.Whole (withMapper c m)
@@ -169,11 +173,11 @@ module _ (c : Cartridge) (bytes : List ℕ) (wall : ℕ) where
 
   from-battery : fromBattery c (battery.loadOf (c .mapper) bytes wall)
       ≡ firstNo loaded.Refuse (behindNoes (c .mapper) bytes wall) (acceptedOf c bytes wall)
-  unfolding battery.loadOf acceptedOf wakeOf
+  unfolding battery.loadOf acceptedOf wakeOf blockNoes
   from-battery = go (hasBlock (c .mapper) bytes)
     where
       go : (t : Bool) → fromBattery c (pick t (loadedBy (c .mapper) (wakeOf (blockIn bytes) wall)) behind.RamOnly)
-          ≡ firstNo loaded.Refuse (pick t (inWords Block (blockNoes (blockIn bytes) wall)) []) (pick t whole loaded.RamOnly)
+          ≡ firstNo loaded.Refuse (onlyWhere t (inWords Block (blockNoes (blockIn bytes) wall))) (pick t whole loaded.RamOnly)
       go true =
           first-map (λ w. fromBattery c (loadedBy (c .mapper) w)) woken.Refuse (blockNoes (blockIn bytes) wall)
           (woken.To (wokenOf (blockIn bytes) wall))

@@ -1,9 +1,10 @@
 -- The save file read (document 01, "The save file").
+use mathlib.Core.Bool.{Bool}
 use mathlib.Core.List.{List, [], _∷_, _++_}
 use Prim.Native.Nat.{ℕ}
 use lib.Dec.{ltb}
 use lib.ListN.{length, take, drop}
-use Rattle.facts.specs.Choice.{pick}
+use Rattle.facts.specs.Choice.{pick, both}
 use Rattle.facts.specs.Refusals.{No, no, firstNo, inWords}
 use Rattle.clock_block.specs.Layout.{blockIn}
 use Rattle.clock_block.specs.Waking.{blockNoes, wokenOf}
@@ -17,9 +18,14 @@ use Rattle.save_file.specs.declared.SaveRefusal.the-variants.{ShortSave,
 use Rattle.save_file.specs.declared.Loaded.{Loaded}
 use Rattle.save_file.specs.declared.Loaded.the-variants.{Whole, RamOnly, Refuse}
 
+-- the same tests, none of which holds where t does not
+abbrev pub onlyWhere : {R : Type 0} → Bool → List (No R) → List (No R)
+onlyWhere t [] = []
+onlyWhere t (x ∷ xs) = no (both t (x .holds)) (x .why) ∷ onlyWhere t xs
+
 -- 20 and 17, where there is a block behind the RAM to be read
 abbrev pub behindNoes : Mapper → List ℕ → ℕ → List (No SaveRefusal)
-behindNoes m behind wall = pick (hasBlock m behind) (inWords Block (blockNoes (blockIn behind) wall)) []
+behindNoes m behind wall = onlyWhere (hasBlock m behind) (inWords Block (blockNoes (blockIn behind) wall))
 
 -- 19: "save bytes shorter than the RAM area", then 20 and 17
 abbrev pub bytesNoes : Mapper → ℕ → List ℕ → ℕ → List (No SaveRefusal)
