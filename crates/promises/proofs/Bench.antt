@@ -3,6 +3,7 @@ use mathlib.Core.Bool.{Bool, true, false}
 use mathlib.Core.Path.{_≡_, refl, sym}
 use Prim.Native.Nat.{ℕ, _+_, _<_, _≤_}
 use Rattle.facts.specs.Counter.{carries, step, stepIf}
+use Rattle.facts.proofs.ChoiceLaws.{either-true, either-false}
 use Rattle.clock.specs.Fit.{fitClock}
 use Rattle.clock_registers.specs.Seconds.{secondOn, secondsOn}
 use Rattle.clock.specs.Ticking.{moving, tick, ticks, advanceOf}
@@ -30,24 +31,24 @@ in-seconds : (r q : Registers) (k x : ℕ) → r .halt ≡ false → secondsOn k
     → advanceOf (clockOf r x t l f) (secondsOf k) ≡ To (clockOf q x (t + k) l f)
 in-seconds r q k x h e t l f g m = taken-seconds (clockOf r x t l f) k g h m e
 
-pub bench : (d h m x : ℕ) → All (rows d h m x)
+pub bench : (d h m s x : ℕ) (c : Bool) → All (rows d h m s x c)
 unfolding bankAt mbc1.bankX mbc1.twoAt placeOf secondsOn secondOn step stepIf carries ticks tick moving
-bench d h m x = (
+bench d h m s x c = (
   (λ enabled mode. refl),
   (
     (λ enabled mode. refl),
     (
       stored,
       (
-        in-seconds _ _ 1 x refl refl,
+        in-seconds _ _ 1 x refl (simp either-true),
         (
-          in-seconds _ _ 4 x refl refl,
+          in-seconds _ _ 4 x refl (simp either-false),
           (
-            in-seconds _ _ 1 x refl refl,
+            in-seconds _ _ 1 x refl (simp either-false),
             (
-              (λ t l f g n. sym (taken-answer (clockOf (at d h m 7) 2097151 t l f) 1 g n)),
+              (λ t l f g n. sym (taken-answer (clockOf (at d h m s c) 2097151 t l f) 1 g n)),
               (
-                in-seconds _ _ 30 x refl refl,
+                in-seconds _ _ 30 x refl (simp either-false),
                 tt,
               ),
             ),

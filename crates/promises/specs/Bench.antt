@@ -6,6 +6,7 @@ use Prim.Native.Nat.{ℕ, _+_, _<_, _≤_}
 use Rattle.clock.specs.Fit.{fitClock}
 use Rattle.clock.specs.Ticking.{advanceOf}
 use Rattle.clock_registers.specs.Access.{registers}
+use Rattle.clock_registers.specs.Seconds.{secondOn}
 use Rattle.clock_registers.specs.declared.Registers.{Registers}
 use Rattle.clock.specs.declared.Clock.{Clock}
 use Rattle.clock.specs.declared.Advanced.the-variants.{To}
@@ -32,8 +33,9 @@ pub data Row : Type 0 where
   stores : ℕ → ℕ → Row
   passes : Passing → Row
 
-abbrev pub at : ℕ → ℕ → ℕ → ℕ → Registers
-at d h m s = registers s m h d false false
+-- not halted: day, hour, minute, second, carry
+abbrev pub at : ℕ → ℕ → ℕ → ℕ → Bool → Registers
+at d h m s c = registers s m h d false c
 
 abbrev pub clockOf : Registers → ℕ → ℕ → Bool → Registers → Clock
 clockOf r x t l f = record { running = r; sub = x; time = t; latched = l; frozen = f }
@@ -54,18 +56,32 @@ abbrev pub All : List Row → Type 0
 All [] = Unit {0}
 All (w ∷ ws) = Holds w × All ws
 
+-- whole seconds, after which the sub-second is what it was
 abbrev pub seconds : Registers → ℕ → ℕ → Registers → Row
 seconds r x k q = passes (record { before = r; sub = x; clocks = secondsOf k; passed = k; after = q; rest = x })
 
--- d, h, m and x: the day, hour, minute and sub-second that a row leaves open
-abbrev pub rows : ℕ → ℕ → ℕ → ℕ → List Row
-rows d h m x =
+-- one clock, which completes a second
+abbrev pub oneClock : Registers → ℕ → Registers → ℕ → Row
+oneClock r x q y = passes (record { before = r; sub = x; clocks = 1; passed = 1; after = q; rest = y })
+
+-- d, h, m, s, x and c: the day, hour, minute, second, sub-second and carry that a row leaves open; "The carry stays until a write
+-- clears it"
+abbrev pub rows : ℕ → ℕ → ℕ → ℕ → ℕ → Bool → List Row
+rows d h m s x c =
+    -- 1. "MBC1, 128 banks, low 0x12, two-bit 2: 0x4000 maps to 0x148000."
     maps 128 0x12 2 0x4000 0x148000
+    -- 2. "Same, 64 banks: 0x48000."
     ∷ maps 64 0x12 2 0x4000 0x48000
+    -- 3. "Multicart, 0x10 written: low register 0."
     ∷ stores 0x10 0
-    ∷ seconds (at 511 23 59 59) x 1 (registers 0 0 0 0 false true)
-    ∷ seconds (at d h m 60) x 4 (at d h m 0)
-    ∷ seconds (at d h 63 59) x 1 (at d h 0 0)
-    ∷ passes (record { before = at d h m 7; sub = 2097151; clocks = 1; passed = 1; after = at d h m 8; rest = 0 })
-    ∷ seconds (at d 0 0 40) x 30 (at d 0 1 10)
+    -- 4. "Day 511, 23:59:59, one second: day 0, 00:00:00, carry."
+    ∷ seconds (at 511 23 59 59 c) x 1 (at 0 0 0 0 true)
+    -- 5. "Second 60, four seconds: second 0, same minute."
+    ∷ seconds (at d h m 60 c) x 4 (at d h m 0 c)
+    -- 6. "Minute 63, second 59, one second: minute 0, same hour."
+    ∷ seconds (at d h 63 59 c) x 1 (at d h 0 0 c)
+    -- 7. "Sub-second 2,097,151, one clock: next second."
+    ∷ oneClock (at d h m s c) 2097151 (secondOn (at d h m s c)) 0
+    -- 8. "00:00:40 and 30 seconds: 00:01:10 (the Rust: 6 seconds)."
+    ∷ seconds (at d 0 0 40 c) x 30 (at d 0 1 10 c)
     ∷ []
