@@ -20,4 +20,3 @@ pub mod Windows
 pub mod Original
 pub mod Outside
 pub mod Parting
-pub mod SaveRead

@@ -15,5 +15,4 @@ pub mod Follows
 pub mod Same
 pub mod Step
 pub mod Verdict
-pub mod Begins
 pub mod Along

@@ -1,14 +1,11 @@
 -- `RtcRegister` of mappers/mbc3.rs. A method with `&mut self` gives the next `self`, beside what it returns; the wall time is an
 -- argument. `add_to_registers` and `update_registers` stand before their callers, the others in the Rust's order; `data` is
--- `byte`, and in `load_battery` `bytes`.
+-- `byte`.
 use mathlib.Core.Bool.{Bool, false, not}
-use mathlib.Core.List.{List}
 use Prim.Native.Nat.{ℕ, _/_, _%_}
 use lib.Bits.{bitAnd, bitOr}
 use lib.Dec.{eqb, ltb}
-use lib.ListN.{length}
 use Rattle.facts.specs.Choice.{pick, both, bit}
-use Rattle.bytes_le.specs.Little.{fieldAt}
 use Rattle.original.specs.Machine.{
   Outcome,
   ok,
@@ -169,12 +166,3 @@ clockSecondPart self =
     (rtc sub (self .seconds) (self .minutes) (self .hours) (self .days) (self .halt) (self .carry) (self .last) (self .latched)
     (self .now)))))
     (ok self)
-
--- `load_battery`: each `unwrap` of the cursor's reads panics where the data ends before
-unfoldable pub loadBattery : RtcRegister → List ℕ → Outcome RtcRegister
-loadBattery self bytes =
-    pick (ltb (length bytes) 21) panic
-    (bind (addIn u64 (self .now) (fieldAt 8 bytes 13)) (λ now.
-    ok
-    (rtc (self .sub) (fieldAt 1 bytes 0) (fieldAt 1 bytes 1) (fieldAt 1 bytes 2) (fieldAt 2 bytes 3) (self .halt) (self .carry)
-    (fieldAt 8 bytes 5) (self .latched) now)))

@@ -42,7 +42,7 @@ use Rattle.bus.specs.Run.{Access, Answer, Machine, stepOf, runOf, Ready}
 use Rattle.bus.specs.Run as run
 use Rattle.runs.specs.Padded.{padded}
 use Rattle.runs.specs.Limits.{Within}
-use Rattle.runs.specs.Game.{Game, Readable, begins}
+use Rattle.runs.specs.Game.{Game, mountedMachine, answerTo, Accepted, Readable, begins}
 use Rattle.runs.specs.Calls.{Calls, AtMostOne}
 use Rattle.runs.specs.Calls as calls
 use Rattle.runs.proofs.ImageLaws as image
@@ -66,6 +66,7 @@ use Rattle.refused.specs.Kept.{keptAnswers}
 use Rattle.refused.proofs.Refused as refused
 use Rattle.original_saves.specs.SramFile.{fromFileWith}
 use Rattle.original_saves.specs.Written.{WritesSame}
+use Rattle.original_saves.specs.ReadIn.{CutInTime}
 use Rattle.original_saves.specs.Game.{given, ClockHolds, NothingDue, Unseen, CutHarmless, GameAgrees}
 use Rattle.original_saves.proofs.StopLaws as stop
 use Rattle.original_saves.proofs.Games as games
@@ -219,7 +220,14 @@ pub run-agrees : {image : List ℕ} {past : Since} {m : Machine} {o : rust.Cartr
     → InReach image m past accesses → RunsBeside image m past held o accesses
 run-agrees = board.board-run
 
--- 7. A save that we don't accept: the Rust reads none without a battery (18),
+-- 7. A save that we accept the Rust reads to our RAM, a block that is cut short with it, if that does not stop it.
+pub rust-reads-our-save : (g : Game) (save : List ℕ) → bytes.Octets save → Accepted (answerTo (mountedMachine g) save (g .wall))
+    → CutInTime (mountedMachine g) save (g .wall)
+    → (o : rust.Cartridge) × (fromFileWith (g .image) (g .wall) (some save) ≡ ok (taken o))
+    × (o .ram ≡ take (g .cart .size) (begins g (some save) .area))
+rust-reads-our-save = stop.accepted-ram-read
+
+-- Of those that we don't accept it reads none without a battery (18),
 pub rust-reads-no-save-without-battery : (g : Game) → g .cart .battery ≡ false → (file : Option (List ℕ))
     → fromFileWith (g .image) (g .wall) file ≡ fromFile (g .image) (g .wall)
 rust-reads-no-save-without-battery = stop.no-battery-unread
