@@ -1,26 +1,30 @@
-//! An edit turns a good crate into a wrong one. Its first line says what the slip is. A line `file: PATH` names a file of the crate; each pair
-//! of lines `old: TEXT` and `new: TEXT` behind it exchanges a text that stands there exactly once. Every other line is a comment.
+//! An edit turns a good crate into a wrong one. Its first line says what the slip is. A line `file: PATH` names a file of the crate, and
+//! `file: ../CRATE/PATH` one of a crate below it; each pair of lines `old: TEXT` and `new: TEXT` behind it exchanges a text that stands there
+//! exactly once. Every other line is a comment.
 
+use std::collections::BTreeSet;
 use std::fs;
 use std::path::Path;
 
 #[derive(Debug, PartialEq)]
 pub struct Change {
+    /// The crate whose file it is.
+    of: String,
     file: String,
     old: String,
     new: String,
 }
 
-/// The changes of an edit's text, in their order.
-pub fn read(text: &str) -> Result<Vec<Change>, String> {
-    let (mut file, mut old) = (String::new(), String::new());
+/// The changes of the text of an edit of the crate `own`, in their order.
+pub fn read(text: &str, own: &str) -> Result<Vec<Change>, String> {
+    let (mut of, mut file, mut old) = (String::new(), String::new(), String::new());
     let mut changes = Vec::new();
     if text.trim().is_empty() || text.starts_with("file: ") {
         return Err("no first line says what the slip is".to_string());
     }
     for line in text.lines() {
         if let Some(path) = line.strip_prefix("file: ") {
-            file = of_the_crate(path)?;
+            (of, file) = placed(path, own)?;
         } else if let Some(words) = line.strip_prefix("old: ") {
             if !old.is_empty() {
                 return Err(format!("no 'new:' line follows 'old: {old}'"));
@@ -31,7 +35,7 @@ pub fn read(text: &str) -> Result<Vec<Change>, String> {
                 return Err("a 'new:' line has no 'file:' and 'old:' lines before it".to_string());
             }
             let new = words.strip_prefix(' ').unwrap_or(words).to_string();
-            changes.push(Change { file: file.clone(), old: std::mem::take(&mut old), new });
+            changes.push(Change { of: of.clone(), file: file.clone(), old: std::mem::take(&mut old), new });
         }
     }
     if !old.is_empty() {
@@ -43,18 +47,24 @@ pub fn read(text: &str) -> Result<Vec<Change>, String> {
     Ok(changes)
 }
 
-/// A path that stays inside the three folders that the prover reads.
-fn of_the_crate(path: &str) -> Result<String, String> {
-    let inside = ["src/", "specs/", "proofs/"].iter().any(|folder| path.starts_with(folder));
-    if !inside || path.split('/').any(|part| part == "..") {
+/// The crate that a path leads to, and the path from there, which stays inside the three folders that the prover reads.
+fn placed(path: &str, own: &str) -> Result<(String, String), String> {
+    let (of, file) = path.strip_prefix("../").and_then(|path| path.split_once('/')).unwrap_or((own, path));
+    let inside = ["src/", "specs/", "proofs/"].iter().any(|folder| file.starts_with(folder));
+    if !inside || of == ".." || file.split('/').any(|part| part == "..") {
         return Err(format!("'file: {path}' is no file under src/, specs/ or proofs/"));
     }
-    Ok(path.to_string())
+    Ok((of.to_string(), file.to_string()))
 }
 
-/// Makes the changes to the crate in `tree`.
-pub fn apply(changes: &[Change], tree: &Path) -> Result<(), String> {
-    for change in changes {
+/// The crates whose files the changes are in.
+pub fn changed(changes: &[Change]) -> BTreeSet<String> {
+    changes.iter().map(|change| change.of.clone()).collect()
+}
+
+/// Makes those of the changes that are of the crate `of`, which stands in `tree`.
+pub fn apply(changes: &[Change], of: &str, tree: &Path) -> Result<(), String> {
+    for change in changes.iter().filter(|change| change.of == of) {
         let path = tree.join(&change.file);
         let text = fs::read_to_string(&path).map_err(|why| format!("{}: {why}", change.file))?;
         let text = exchanged(&text, change)?;
@@ -76,7 +86,15 @@ mod tests {
     use super::*;
 
     fn change(old: &str, new: &str) -> Change {
-        Change { file: "src/lib.rt".to_string(), old: old.to_string(), new: new.to_string() }
+        change_of("own", old, new)
+    }
+
+    fn change_of(of: &str, old: &str, new: &str) -> Change {
+        Change { of: of.to_string(), file: "src/lib.rt".to_string(), old: old.to_string(), new: new.to_string() }
+    }
+
+    fn read(text: &str) -> Result<Vec<Change>, String> {
+        super::read(text, "own")
     }
 
     #[test]
@@ -100,9 +118,29 @@ mod tests {
     }
 
     #[test]
-    fn an_edit_stays_inside_its_crate() {
-        assert!(read("A slip.\nfile: src/../../other/src/lib.rt\nold: a\nnew: b\n").is_err());
-        assert!(read("A slip.\nfile: stdout\nold: a\nnew: b\n").is_err());
+    fn an_edit_changes_other_crates_by_their_names() {
+        let text = "A slip.\nfile: ../other/src/lib.rt\nold: a\nnew: b\nold: c\nnew: d\nfile: src/lib.rt\nold: a\nnew: b\n";
+        let changes = read(text).unwrap();
+        assert_eq!(changes, [change_of("other", "a", "b"), change_of("other", "c", "d"), change("a", "b")]);
+        assert_eq!(changed(&changes).into_iter().collect::<Vec<_>>(), ["other", "own"]);
+    }
+
+    #[test]
+    fn an_edit_stays_inside_what_the_prover_reads() {
+        for path in [
+            "stdout",
+            "src/../../other/src/lib.rt",
+            "../other/stdout",
+            "../other",
+            "../src/lib.rt",
+            "../../src/lib.rt",
+            "../../other/src/lib.rt",
+            "../other/../third/src/lib.rt",
+            "../other/src/../../third/src/lib.rt",
+            "/src/lib.rt",
+        ] {
+            assert!(read(&format!("A slip.\nfile: {path}\nold: a\nnew: b\n")).is_err(), "{path}");
+        }
     }
 
     #[test]

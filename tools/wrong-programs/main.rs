@@ -2,9 +2,12 @@
 //!
 //! Tries the wrong programs of the crates, or of all crates: each file crates/CRATE/wrong/*.edit (or of the folders named) makes a copy of
 //! the crate wrong, and the prover must refuse it at a fact. The crate is first checked as it stands, over the modules that `rt` has
-//! proved; each edit then goes over a copy of that store, so that only what it touches is checked again. One line for each edit; the
-//! last line is 'N passed, M failed'. With --judge, what `rt` has tried itself and left in that folder is held to the same: refused at a fact. What the prover said stands in target/wrong-programs/CRATE/EDIT.log; copies stand in TMPDIR meanwhile.
+//! proved; each edit then goes over a copy of that store, so that only what it touches is checked again. An edit may change crates below its
+//! own too: these and those between must all be proved with it, before its own is refused. One line for each edit; the last line is
+//! 'N passed, M failed'. With --judge, what `rt` has tried itself and left in that folder is held to the same: refused at a fact. What the
+//! prover said stands in target/wrong-programs/CRATE/EDIT.log, and of a crate below in EDIT-BELOW.log; copies stand in TMPDIR meanwhile.
 
+mod crates;
 mod edit;
 mod folder;
 mod prover;

@@ -1,6 +1,7 @@
 //! The kit's prover, asked of one crate over a store: a folder in which it keeps what it has checked, module by module, and from which
 //! it takes whatever is still the same.
 
+use crate::crates::Crates;
 use std::collections::BTreeMap;
 use std::fs::{self, File};
 use std::io;
@@ -12,11 +13,14 @@ use std::time::{Duration, Instant};
 /// A check of the largest crate from nothing takes a minute on slow cores; one that takes ten will not end.
 const LIMIT: Duration = Duration::from_secs(600);
 
+/// The folders of crates that are taken from there, and not as `rt` has proved them.
+pub type Trees = BTreeMap<String, PathBuf>;
+
 pub struct Prover {
+    pub crates: Crates,
     kit: PathBuf,
     own: PathBuf,
     rlibs: PathBuf,
-    libraries: BTreeMap<String, Vec<String>>,
     parent: u32,
 }
 
@@ -27,10 +31,10 @@ impl Prover {
         let guide = PathBuf::from(String::from_utf8_lossy(&guide.stdout).trim());
         let kit = guide.parent().and_then(Path::parent).ok_or_else(|| io::Error::new(io::ErrorKind::NotFound, "'rt doc' names no guide"))?;
         Ok(Prover {
+            crates: Crates::read(&fs::read_to_string(top.join("crates.txt"))?),
             kit: kit.to_path_buf(),
             own: kit.join("on").join(std::env::consts::ARCH),
             rlibs: top.join("target/rlib"),
-            libraries: listed(&fs::read_to_string(top.join("crates.txt"))?),
             parent: parent_id(),
         })
     }
@@ -40,23 +44,18 @@ impl Prover {
         parent_id() == self.parent && std::env::temp_dir().is_dir()
     }
 
-    pub fn crates(&self) -> Vec<String> {
-        self.libraries.keys().cloned().collect()
-    }
-
-    /// Checks the crate in `tree` over the store, and leaves all that the prover says in `log`. The exit status, where there is one: none where
-    /// the prover was ended by a signal, or by this at its limit.
-    pub fn check(&self, name: &str, tree: &Path, store: &Path, log: &Path) -> io::Result<Option<i32>> {
-        let mut root = tree.join("src/main.rt");
-        if !root.exists() {
-            root = tree.join("src/lib.rt");
-        }
+    /// Checks the crate, which is one of the trees, over the store, and leaves all that the prover says in `log`. Those of its libraries that are
+    /// trees too are checked with it. The exit status, where there is one: none where the prover was ended by a signal, or by this at its limit.
+    pub fn check(&self, name: &str, trees: &Trees, store: &Path, log: &Path) -> io::Result<Option<i32>> {
         let said = File::create(log)?;
         let mut rattle = Command::new(self.own.join("bin/rattle"));
-        rattle.args(["check", "--crate-name", name]).arg(root);
+        rattle.args(["check", "--crate-name", name]).arg(root(&trees[name]));
         rattle.arg("--extern").arg(format!("std={}", self.own.join("rlib/std.rlib").display()));
-        for library in self.libraries.get(name).into_iter().flatten() {
-            rattle.arg("--extern").arg(format!("{library}={}", self.rlib(library).display()));
+        for library in self.crates.below(name) {
+            match trees.get(library) {
+                Some(tree) => rattle.arg("--lib").arg(format!("{library}:{}={}", self.used_by(library), root(tree).display())),
+                None => rattle.arg("--extern").arg(format!("{library}={}", self.rlib(library).display())),
+            };
         }
         for folder in [&self.rlibs, &self.own.join("rlib")] {
             rattle.arg("-L").arg(format!("dependency={}", folder.display()));
@@ -81,6 +80,11 @@ impl Prover {
         Ok(None)
     }
 
+    /// What a library may use, as the prover is told.
+    fn used_by(&self, library: &str) -> String {
+        self.crates.below(library).fold("std".to_string(), |used, name| used + "," + name)
+    }
+
     /// The library as `rt` proved it here, or as the kit has it.
     fn rlib(&self, library: &str) -> PathBuf {
         let proved = self.rlibs.join(library).with_extension("rlib");
@@ -100,29 +104,19 @@ impl Prover {
     pub fn store_name(&self, folder: &Path) -> io::Result<String> {
         fs::create_dir_all(folder.join("src"))?;
         fs::write(folder.join("src/lib.rt"), "pub fn nothing() {}\n")?;
-        self.check("empty", folder, &folder.join("store"), &folder.join("log"))?;
+        let trees = Trees::from([("empty".to_string(), folder.to_path_buf())]);
+        self.check("empty", &trees, &folder.join("store"), &folder.join("log"))?;
         let kept = fs::read_dir(folder.join("store"))?.next().transpose()?;
         let name = kept.map(|kept| kept.file_name().to_string_lossy().to_string());
         name.ok_or_else(|| io::Error::new(io::ErrorKind::NotFound, "the prover kept nothing in its store"))
     }
 }
 
-/// The libraries of each crate, by the lines `NAME: DEP DEP` of crates.txt.
-fn listed(text: &str) -> BTreeMap<String, Vec<String>> {
-    let lines = text.lines().map(|line| line.split('#').next().unwrap_or(""));
-    let pairs = lines.filter_map(|line| line.split_once(':'));
-    pairs.map(|(name, used)| (name.trim().to_string(), used.split_whitespace().map(str::to_string).collect())).collect()
-}
-
-#[cfg(test)]
-mod tests {
-    use super::*;
-
-    #[test]
-    fn a_line_names_a_crate_and_what_it_stands_on() {
-        let found = listed("# NAME: what it stands on\nfacts:\nclock: facts clock_registers # a clock\n\n");
-        assert_eq!(found.len(), 2);
-        assert!(found["facts"].is_empty());
-        assert_eq!(found["clock"], ["facts", "clock_registers"]);
+/// The file of a crate that its other files are found from.
+fn root(tree: &Path) -> PathBuf {
+    let main = tree.join("src/main.rt");
+    if main.exists() {
+        return main;
     }
+    tree.join("src/lib.rt")
 }

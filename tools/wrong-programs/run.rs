@@ -1,8 +1,8 @@
 //! A run: every wrong program of some crates, tried by as many hands as asked.
 
-use crate::edit;
+use crate::edit::{self, Change};
 use crate::folder::{copied, weight};
-use crate::prover::Prover;
+use crate::prover::{Prover, Trees};
 use crate::queue::{Queue, Task};
 use crate::verdict::{self, Verdict};
 use std::cmp::Reverse;
@@ -60,7 +60,10 @@ impl Run {
     /// Tries all edits of these crates, or of all crates. What costs most begins, so that no hand is left alone with it at the end.
     pub fn go(&self, named: &[String], hands: usize) -> io::Result<Tally> {
         let mut crates = self.with_edits(named)?;
-        crates.sort_by_key(|name| Reverse(weight(&self.prover.checked(name))));
+        crates.sort_by_key(|name| {
+            let deepest = self.edits(name).iter().map(|edit| self.depth(name, edit)).max();
+            Reverse((deepest, weight(&self.prover.checked(name))))
+        });
         let queue = Queue::new(crates);
         std::thread::scope(|scope| {
             for _ in 0..hands {
@@ -88,7 +91,7 @@ impl Run {
     }
 
     fn with_edits(&self, named: &[String]) -> io::Result<Vec<String>> {
-        let all = self.prover.crates();
+        let all = self.prover.crates.names();
         if let Some(stranger) = named.iter().find(|name| !all.contains(name)) {
             return Err(lost(format!("crates.txt lists no crate '{stranger}'")));
         }
@@ -160,9 +163,10 @@ impl Run {
         }
     }
 
-    /// The edits that can be tried: all of the crate, or none where it is not proved as it stands.
+    /// The edits that can be tried, the longest first: all of the crate, or none where it is not proved as it stands.
     fn readied(&self, name: &str) -> Vec<String> {
-        let edits = self.edits(name);
+        let mut edits = self.edits(name);
+        edits.sort_by_key(|edit| Reverse(self.depth(name, edit)));
         if let Err(why) = self.checked_as_it_stands(name) {
             self.tell(name, edits.len(), Err(format!("its {} wrong programs show nothing: {why}", edits.len())));
             return Vec::new();
@@ -218,9 +222,10 @@ impl Run {
     /// Checks the crate over what `rt` has proved of it: then its store is filled, and whatever is refused is an edit's doing.
     fn checked_as_it_stands(&self, name: &str) -> Result<(), String> {
         let store = self.store(name);
+        let trees = Trees::from([(name.to_string(), self.crate_folder(name))]);
         let status = copied(&self.prover.checked(name), &store.join(&self.store_name))
             .and_then(|()| self.log(name, "as-it-stands"))
-            .and_then(|log| self.prover.check(name, &self.crate_folder(name), &store, &log))
+            .and_then(|log| self.prover.check(name, &trees, &store, &log))
             .map_err(|why| why.to_string())?;
         if status == Some(0) {
             return Ok(());
@@ -228,36 +233,74 @@ impl Run {
         Err(format!("the crate is not proved as it stands (target/wrong-programs/{name}/as-it-stands.log)"))
     }
 
-    /// Tries one edit: the place where it is refused, or what is wrong with it. Only its log stays.
+    /// The changes of an edit: of its own crate, and of crates below it.
+    fn changes(&self, name: &str, edit: &str) -> Result<Vec<Change>, String> {
+        let path = self.crate_folder(name).join(edit).with_extension("edit");
+        let text = fs::read_to_string(path).map_err(|why| why.to_string())?;
+        let changes = edit::read(&text, name)?;
+        let is_below = |of: &String| of == name || self.crate_folder(of).is_dir() && self.prover.crates.below(name).any(|library| library == of);
+        match edit::changed(&changes).into_iter().find(|of| !is_below(of)) {
+            Some(stranger) => Err(format!("{name} stands on no crate '{stranger}' of this repository")),
+            None => Ok(changes),
+        }
+    }
+
+    /// How many crates have to be proved before the edit's own is checked.
+    fn depth(&self, name: &str, edit: &str) -> usize {
+        self.changes(name, edit).map_or(0, |changes| self.prover.crates.anew(name, &edit::changed(&changes)).len())
+    }
+
+    /// Tries one edit: the place where it is refused, or what is wrong with it. Only its logs stay.
     fn attempt(&self, name: &str, edit: &str, label: &str) -> Result<String, String> {
         let room = self.room.join(name);
-        let (tree, store) = (room.join(label), room.join(format!("{label}.store")));
-        let verdict = self
-            .edited(name, edit, &tree)
-            .and_then(|()| self.checked_edited(name, label, &tree, &store).map_err(|why| why.to_string()));
-        let _ = fs::remove_dir_all(&tree);
+        let (copies, store) = (room.join(label), room.join(format!("{label}.store")));
+        let verdict = self.edited(name, edit, &copies).and_then(|edited| self.checked_edited(name, label, &edited, &store));
+        let _ = fs::remove_dir_all(&copies);
         let _ = fs::remove_dir_all(&store);
         judged(verdict?)
     }
 
-    /// Makes a copy of the crate with the edit's changes.
-    fn edited(&self, name: &str, edit: &str, tree: &Path) -> Result<(), String> {
-        let path = self.crate_folder(name).join(edit).with_extension("edit");
-        let text = fs::read_to_string(path).map_err(|why| why.to_string())?;
-        let changes = edit::read(&text).map_err(|why| format!("bad edit: {why}"))?;
-        for part in ["src", "specs", "proofs"] {
-            copied(&self.crate_folder(name).join(part), &tree.join(part)).map_err(|why| why.to_string())?;
+    /// Makes copies of the crates that the edit changes, with its changes.
+    fn edited(&self, name: &str, edit: &str, copies: &Path) -> Result<Trees, String> {
+        let changes = self.changes(name, edit).map_err(|why| format!("bad edit: {why}"))?;
+        let mut edited = Trees::new();
+        for of in edit::changed(&changes) {
+            let tree = copies.join(&of);
+            for part in ["src", "specs", "proofs"] {
+                copied(&self.crate_folder(&of).join(part), &tree.join(part)).map_err(|why| why.to_string())?;
+            }
+            edit::apply(&changes, &of, &tree).map_err(|why| format!("bad edit: {why}"))?;
+            edited.insert(of, tree);
         }
-        edit::apply(&changes, tree).map_err(|why| format!("bad edit: {why}"))
+        Ok(edited)
     }
 
-    /// Checks such a copy over a copy of the crate's store.
-    fn checked_edited(&self, name: &str, label: &str, tree: &Path, store: &Path) -> io::Result<Verdict> {
-        copied(&self.store(name), store)?;
-        let log = self.log(name, label)?;
-        let status = self.prover.check(name, tree, store, &log)?;
+    /// Checks the crate with such copies over a copy of its store. Of what stands below it, the copies and what stands on one of them must be
+    /// proved first; the store then has it.
+    fn checked_edited(&self, name: &str, label: &str, edited: &Trees, store: &Path) -> Result<Verdict, String> {
+        copied(&self.store(name), store).map_err(|why| why.to_string())?;
+        let tree = |of: &str| edited.get(of).cloned().unwrap_or_else(|| self.crate_folder(of));
+        let mut trees = Trees::new();
+        for library in self.prover.crates.anew(name, &edited.keys().cloned().collect()) {
+            trees.insert(library.clone(), tree(&library));
+            let verdict = copied(&self.prover.checked(&library), &store.join(&self.store_name))
+                .and_then(|()| self.log(name, &format!("{label}-{library}")))
+                .and_then(|log| self.verdict(&library, &trees, store, &log));
+            match verdict.map_err(|why| why.to_string())? {
+                Verdict::Survived => (),
+                Verdict::Refused(why) | Verdict::Unfit(why) | Verdict::Unreached(why) => {
+                    return Err(format!("bad edit: {library}, below {name}, is not proved with it: {why}"));
+                }
+            }
+        }
+        trees.insert(name.to_string(), tree(name));
+        self.log(name, label).and_then(|log| self.verdict(name, &trees, store, &log)).map_err(|why| why.to_string())
+    }
+
+    fn verdict(&self, name: &str, trees: &Trees, store: &Path, log: &Path) -> io::Result<Verdict> {
+        let status = self.prover.check(name, trees, store, log)?;
         let said = fs::read(log)?;
-        Ok(verdict::of(status, &String::from_utf8_lossy(&said), &tree.to_string_lossy()))
+        Ok(verdict::of(status, &String::from_utf8_lossy(&said), &trees[name].to_string_lossy()))
     }
 }
 
