@@ -1,5 +1,6 @@
 //! One cartridge in both: the same image, save and accesses, each answer compared, and what the domain says of it.
-use crate::clocks::{Lazy, Registers, Stepwise};
+use crate::clocks::Registers;
+use crate::domain::{in_ram, rule_of, Timer, BLOCK, SAVE};
 use crate::original::{self, Files, Mounted, Original};
 use crate::recipe::hex;
 use crate::tally::*;
@@ -29,128 +30,15 @@ pub struct Found {
     pub what: String,
 }
 
-fn found<T>(what: String) -> Result<T, Found> {
+pub fn found<T>(what: String) -> Result<T, Found> {
     Err(Found { what })
-}
-
-// ---- the clauses of the domain, as bits
-
-/// A second that no unlatched clock read followed.
-pub const UNREAD: u8 = 1;
-/// A second that passed while the clock was frozen.
-pub const FROZEN: u8 = 2;
-/// A carry.
-pub const CARRY: u8 = 4;
-/// Minute 60 or hour 24 written.
-pub const SIXTY: u8 = 8;
-/// A save read with its clock.
-pub const SAVE: u8 = 16;
-/// A save read with a part of its clock.
-pub const BLOCK: u8 = 32;
-
-fn rule_of(left: u8) -> Rule {
-    match left {
-        _ if left & BLOCK != 0 => Rule::ShortBlock,
-        _ if left & SAVE != 0 => Rule::SaveRead,
-        UNREAD => Rule::Unread,
-        FROZEN | 3 => Rule::Frozen,
-        CARRY => Rule::Carry,
-        SIXTY => Rule::Sixty,
-        _ => Rule::Several,
-    }
-}
-
-/// What is known of a cartridge with a timer.
-pub struct Timer {
-    pub enabled: bool,
-    pub memory: bool,
-    pub register: u8,
-    pub stepwise: Stepwise,
-    pub lazy: Lazy,
-    /// Seconds since the last unlatched clock read.
-    pub due: u64,
-    /// The clauses that the sequence has left.
-    pub left: u8,
-}
-
-fn in_ram(addr: u16) -> bool {
-    addr & 0xE000 == 0xA000
-}
-
-impl Timer {
-    fn new(wall: u64) -> Timer {
-        let (stepwise, lazy) = (Stepwise::new(wall), Lazy::new(wall));
-        Timer { enabled: true, memory: false, register: 0, stepwise, lazy, due: 0, left: 0 }
-    }
-
-    fn on_clock(&self, addr: u16) -> bool {
-        in_ram(addr) && self.enabled && !self.memory
-    }
-
-    /// The clauses that an access would leave.
-    pub fn leaves(&self, access: Access) -> u8 {
-        let mut left = 0;
-        match access {
-            Access::Read(_) => {}
-            Access::Write(addr, byte) => {
-                let clock = self.on_clock(addr);
-                if self.due > 0 && (clock || addr & 0xE000 == 0x6000) {
-                    left |= UNREAD;
-                }
-                if clock && (self.register == 1 && byte & 0x3F == 60 || self.register == 2 && byte & 0x1F == 24) {
-                    left |= SIXTY;
-                }
-                if clock && self.register == 4 && byte & 0x80 != 0 {
-                    left |= CARRY;
-                }
-            }
-            Access::Clocks(n) => {
-                let seconds = self.stepwise.completed(n as u64);
-                if self.due + seconds > 1 {
-                    left |= UNREAD;
-                }
-                if seconds > 0 && self.stepwise.latched {
-                    left |= FROZEN;
-                }
-                if seconds > 0 && self.stepwise.running.day == 511 {
-                    let mut later = self.stepwise.running;
-                    (0..seconds).for_each(|_| later.step());
-                    if later.carry {
-                        left |= CARRY;
-                    }
-                }
-            }
-        }
-        left
-    }
-
-    // What a write does to what is known.
-    fn write(&mut self, addr: u16, byte: u8) {
-        match addr {
-            0x0000..=0x1FFF => self.enabled = byte & 0xF == 0xA,
-            0x4000..=0x5FFF if byte & 0xF < 4 => self.memory = true,
-            0x4000..=0x5FFF => {
-                self.memory = false;
-                self.register = (byte & 0xF) - 8;
-            }
-            0x6000..=0x7FFF => {
-                self.stepwise.latch(byte & 1 == 1);
-                self.lazy.latch(byte & 1 == 1);
-            }
-            _ if self.on_clock(addr) => {
-                self.stepwise.write(self.register, byte);
-                self.lazy.write(self.register, byte);
-            }
-            _ => {}
-        }
-    }
 }
 
 // ---- the library's side
 
-struct Ours {
-    state: State,
-    ram: Vec<u8>,
+pub struct Ours {
+    pub state: State,
+    pub ram: Vec<u8>,
     /// Every second cartridge is read and written through windows where they can say.
     windows: Option<Windows>,
 }
@@ -181,13 +69,13 @@ impl Ours {
         sys::write(&mut self.state, &mut self.ram, addr, byte)
     }
 
-    fn registers(&self, at: usize) -> Registers {
+    pub fn registers(&self, at: usize) -> Registers {
         let s = &self.state[at..at + 7];
         let day = u16::from_le_bytes([s[3], s[4]]);
         Registers { second: s[0], minute: s[1], hour: s[2], day, halt: s[5] == 1, carry: s[6] == 1 }
     }
 
-    fn long(&self, at: usize) -> u64 {
+    pub fn long(&self, at: usize) -> u64 {
         u64::from_le_bytes(self.state[at..at + 8].try_into().unwrap())
     }
 }
@@ -195,8 +83,8 @@ impl Ours {
 // ---- both
 
 pub struct Machine {
-    ours: Ours,
-    original: Box<Original>,
+    pub ours: Ours,
+    pub original: Box<Original>,
     pub kind: usize,
     pub timer: Option<Timer>,
     /// What the last read gave, in the original and in the library.
@@ -355,7 +243,7 @@ impl Machine {
         }
     }
 
-    fn same_ram(&mut self, when: &str) -> Result<(), Found> {
+    pub fn same_ram(&mut self, when: &str) -> Result<(), Found> {
         let ram = self.original.ram();
         if ram != self.ours.ram {
             let place = ram.iter().zip(&self.ours.ram).position(|(a, b)| a != b);
@@ -460,97 +348,6 @@ impl Machine {
             timer.write(addr, byte);
         }
         tally.accesses[self.kind][if in_ram(addr) { 4 } else { 3 }] += 1;
-        Ok(())
-    }
-
-    /// Compares all that is left: the RAM area, the registers, and the save that each writes at a wall time.
-    pub fn end(mut self, files: &Files, tally: &mut Tally, wall: u64) -> Result<(), Found> {
-        tally.sequences += 1;
-        self.same_ram("at the end")?;
-        tally.ram_bytes += self.ours.ram.len() as u64;
-        let fields = self.original.fields();
-        let s = &self.ours.state;
-        let register = if self.timer.is_some() { fields.register } else { 0 };
-        let theirs = (fields.enabled, fields.mode, fields.bank, fields.ram_bank, register);
-        let ours = (s[2] == 1, s[3] == 1, u16::from_le_bytes([s[4], s[5]]), s[6], s[7]);
-        if theirs != ours {
-            return found(format!("registers at the end: the original {:X?}, the library {:X?}", theirs, ours));
-        }
-        let left = match &self.timer {
-            None => 0,
-            Some(timer) => timer.left | if timer.due > 0 { UNREAD } else { 0 },
-        };
-        if let Some(timer) = &self.timer {
-            let time = (self.ours.long(40) & 0xFFFF_FFFF, self.ours.long(32), self.ours.state[44] == 1);
-            let ours = (self.ours.registers(45), time);
-            let theirs = (fields.clock, (fields.sub as u64, fields.time, fields.latched));
-            if left == 0 && ours != theirs {
-                return found(format!("the clock at the end: the original {:?}, the library {:?}", theirs, ours));
-            }
-            if left != 0 {
-                let (step, lazy) = (&timer.stepwise, &timer.lazy);
-                let expected = (step.running, (step.sub, step.time, step.latched));
-                let known = Lazy {
-                    registers: fields.clock,
-                    latched: fields.latched,
-                    sub: fields.sub as u64,
-                    last: fields.last,
-                    time: fields.time,
-                };
-                if ours != expected || self.ours.registers(52) != step.frozen || known != *lazy {
-                    return found(format!(
-                        "the clock at the end: the original {:?}, expected {:?}; the library {:?}, expected {:?}",
-                        known, lazy, ours, expected
-                    ));
-                }
-                if ours != theirs {
-                    tally.listed(rule_of(left));
-                }
-            }
-        }
-        self.saves(files, tally, wall, left)
-    }
-
-    fn saves(mut self, files: &Files, tally: &mut Tally, wall: u64, left: u8) -> Result<(), Found> {
-        let mut room = vec![0xEE; self.ours.ram.len() + 32];
-        let mut size = 0;
-        let answer = sys::save_out(&self.ours.state, &self.ours.ram, &mut room, wall, &mut size);
-        let theirs = match self.original.end(files, wall) {
-            Ok(theirs) => theirs,
-            Err(why) => return found(format!("saving: the original stops ({})", why)),
-        };
-        let theirs = match (answer, theirs) {
-            (18, None) => return Ok(()),
-            (0, Some(theirs)) => theirs,
-            (answer, theirs) => {
-                return found(format!("saving: the library {}, the original {:?}", answer, theirs.map(|s| s.len())))
-            }
-        };
-        tally.saves_written += 1;
-        room.truncate(size as usize);
-        if left == 0 {
-            if room != theirs {
-                let area = self.ours.ram.len();
-                let tail = |save: &[u8]| hex(&save[area.min(save.len())..]);
-                return found(format!(
-                    "saves of {} and {} bytes: .. {} and .. {}",
-                    theirs.len(),
-                    size,
-                    tail(&theirs),
-                    tail(&room)
-                ));
-            }
-            return Ok(());
-        }
-        let timer = self.timer.as_ref().unwrap();
-        let with = |block: Vec<u8>| [&self.ours.ram[..], &block].concat();
-        if room != with(timer.stepwise.save(wall)) || theirs != with(timer.lazy.save(wall)) {
-            return found("saves: not as expected".to_string());
-        }
-        if room != theirs {
-            tally.listed(rule_of(left));
-            tally.saves_apart = Some((hex(&theirs[theirs.len() - 21..]), hex(&room[room.len() - 21..])));
-        }
         Ok(())
     }
 

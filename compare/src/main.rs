@@ -1,7 +1,9 @@
 //! Drives mizu-core 1.3.0's cartridge module, unchanged, and libplayer.a with the same images and accesses, and stops at the first
 //! difference that is on no list, with the smallest sequence that shows it. compare/README.md says how to run it.
 mod clocks;
+mod domain;
 mod draw;
+mod ending;
 mod images;
 mod machine;
 mod original;

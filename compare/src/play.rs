@@ -1,8 +1,9 @@
 //! Accesses, drawn and directed: bank registers and then the windows' edges, both modes, every selection, enabling and disabling, the
 //! clock's registers, its latch, and time that passes.
 use crate::clocks::SECOND;
+use crate::domain::{Timer, CARRY, FROZEN, SIXTY, UNREAD};
 use crate::draw::Draw;
-use crate::machine::*;
+use crate::machine::{Access, Machine};
 use std::collections::VecDeque;
 use Access::{Clocks, Read, Write};
 
