@@ -1,4 +1,4 @@
-.PHONY: test quick wrong times replay kit player player-library player-test valgrind bench compare compare-states compare-vectors original tools
+.PHONY: test quick wrong times replay kit player player-library player-test valgrind bench compare compare-states compare-timer compare-vectors original tools
 
 # The folder with `cart.rom` and `cart.trace` that `make replay` runs on.
 DIR ?= crates/replay/data
@@ -88,6 +88,12 @@ compare: original tools player-library
 
 compare-states: original tools player-library
 	$(COMPARE) states
+
+# Boards with a timer, whatever their clock does. SEED, BOARDS and ACCESSES, for each board, may be given; CHECKED=yes has the original stop
+# where a number overflows.
+BOARDS ?= 12000
+compare-timer: original tools player-library
+	$(COMPARE) timer --seed $(SEED) --boards $(BOARDS) --accesses $(ACCESSES) --out "$(COMPARED)"
 
 # The sample that `make test` replays, made anew.
 compare-vectors: original tools player-library

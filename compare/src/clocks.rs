@@ -4,6 +4,9 @@
 
 pub const SECOND: u64 = 2_097_152;
 
+/// Seconds of a day.
+pub const DAY: u64 = 86_400;
+
 #[derive(Clone, Copy, Debug, Default, PartialEq)]
 pub struct Registers {
     pub second: u8,
@@ -56,10 +59,28 @@ impl Registers {
             return;
         }
         self.hour = 0;
+        self.next_day();
+    }
+
+    fn next_day(&mut self) {
         self.day += 1;
         if self.day == 512 {
             self.day = 0;
             self.carry = true;
+        }
+    }
+
+    /// So many seconds. Where second and minute are below 60 and the hour is below 24, a day brings the same time of the next day: so
+    /// whole days are taken at once there, and months are affordable.
+    pub fn steps(&mut self, mut seconds: u64) {
+        while seconds > 0 {
+            if seconds >= DAY && self.second < 60 && self.minute < 60 && self.hour < 24 {
+                self.next_day();
+                seconds -= DAY;
+            } else {
+                self.step();
+                seconds -= 1;
+            }
         }
     }
 
@@ -144,6 +165,11 @@ impl Stepwise {
         }
     }
 
+    /// Whether its time would pass 2^64 - 1: number 17.
+    pub fn is_late(&self, clocks: u64) -> bool {
+        self.time.checked_add(self.completed(clocks)).is_none()
+    }
+
     pub fn clocks(&mut self, clocks: u64) {
         if self.running.halt {
             return;
@@ -151,13 +177,13 @@ impl Stepwise {
         let seconds = self.completed(clocks);
         self.sub = (self.sub + clocks) % SECOND;
         self.time += seconds;
-        (0..seconds).for_each(|_| self.running.step());
+        self.running.steps(seconds);
     }
 
     pub fn load(&mut self, bytes: &[u8], wall: u64) {
         let (registers, stored, offset) = block(bytes);
         *self = Stepwise { running: registers, ..Stepwise::new(wall + offset) };
-        (0..self.time.saturating_sub(stored)).for_each(|_| self.running.step());
+        self.running.steps(self.time.saturating_sub(stored));
     }
 
     pub fn save(&self, wall: u64) -> Vec<u8> {

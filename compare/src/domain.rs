@@ -1,6 +1,6 @@
 //! The domain in which the rules take the original as the clock's oracle (document 01, "The clock", last paragraph), clause by clause, and
 //! what is known of a clock's place in it.
-use crate::clocks::{Lazy, Stepwise};
+use crate::clocks::{Lazy, Stepwise, DAY};
 use crate::machine::Access;
 use crate::tally::Rule;
 
@@ -75,17 +75,20 @@ impl Timer {
                     left |= CARRY;
                 }
             }
+            // An advance that is refused leaves nothing.
+            Access::Clocks(n) if self.stepwise.is_late(n) => {}
             Access::Clocks(n) => {
-                let seconds = self.stepwise.completed(n as u64);
+                let seconds = self.stepwise.completed(n);
                 if self.due + seconds > 1 {
                     left |= UNREAD;
                 }
                 if seconds > 0 && self.stepwise.latched {
                     left |= FROZEN;
                 }
-                if seconds > 0 && self.stepwise.running.day == 511 {
+                // The next day may be a second away, the others are a day each.
+                if seconds > 0 && self.stepwise.running.day as u64 + (seconds - 1) / DAY >= 511 {
                     let mut later = self.stepwise.running;
-                    (0..seconds).for_each(|_| later.step());
+                    later.steps(seconds);
                     if later.carry {
                         left |= CARRY;
                     }

@@ -1,6 +1,6 @@
 //! The end of a sequence: all that is left is compared, the RAM area, the registers, and the save that each writes.
 use crate::clocks::Lazy;
-use crate::domain::{rule_of, UNREAD};
+use crate::domain::{rule_of, BLOCK, UNREAD};
 use crate::machine::{found, Found, Machine};
 use crate::original::Files;
 use crate::recipe::hex;
@@ -13,6 +13,9 @@ impl Machine {
         tally.sequences += 1;
         self.same_ram("at the end")?;
         tally.ram_bytes += self.ours.ram.len() as u64;
+        if self.timer.is_some() {
+            tally.timed.ram_compared += self.ours.ram.len() as u64;
+        }
         let fields = self.original.fields();
         let s = &self.ours.state;
         let register = if self.timer.is_some() { fields.register } else { 0 };
@@ -73,6 +76,12 @@ impl Machine {
         };
         tally.saves_written += 1;
         room.truncate(size as usize);
+        // A part of a block gave the original an offset that the library did not take.
+        if self.timer.is_some() && left & BLOCK == 0 {
+            let offset = same_offset(&theirs, &room, self.ours.ram.len())?;
+            tally.timed.saves += 1;
+            tally.timed.offsets += (offset > 0) as u64;
+        }
         if left == 0 {
             if room != theirs {
                 let area = self.ours.ram.len();
@@ -98,4 +107,22 @@ impl Machine {
         }
         Ok(())
     }
+}
+
+// Whatever the clock did, a timer's saves begin with the same RAM and end with the same offset, which is given.
+fn same_offset(theirs: &[u8], ours: &[u8], area: usize) -> Result<u64, Found> {
+    if theirs.len() != area + 21 || ours.len() != area + 21 {
+        return found(format!("saves of {} and {} bytes for an area of {}", theirs.len(), ours.len(), area));
+    }
+    if let Some(i) = (0..area).find(|i| theirs[*i] != ours[*i]) {
+        return found(format!(
+            "saves: RAM byte {:X} is {:02X} in the original's, {:02X} in the library's",
+            i, theirs[i], ours[i]
+        ));
+    }
+    let offset = |save: &[u8]| u64::from_le_bytes(save[area + 13..].try_into().unwrap());
+    if offset(theirs) != offset(ours) {
+        return found(format!("saves: the offset is {} in the original's, {} in the library's", offset(theirs), offset(ours)));
+    }
+    Ok(offset(ours))
 }

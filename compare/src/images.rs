@@ -216,6 +216,47 @@ pub fn drawn(draw: &mut Draw) -> Image {
     image
 }
 
+/// A board with a timer: RAM of every size or none, 2 to 256 banks, sometimes shorter than its last bank.
+pub fn with_timer(draw: &mut Draw) -> Image {
+    let ty = draw.of(&[0x0F, 0x10, 0x10, 0x10]);
+    let ram = if has_ram(ty) { draw.below(6) as u8 } else { 0 };
+    let shift = match draw.below(64) {
+        0 => 7,
+        1..=5 => draw.below(8),
+        _ => draw.below(4),
+    };
+    let short = if draw.one_in(8) { draw.below(0x4000) as usize } else { 0 };
+    plain(draw, (0x8000 << shift) - short, ty, shift as u8, ram)
+}
+
+/// A whole save for a board with a timer, often none. Its time may stand far behind that of mounting, so that days pass at once; some have
+/// an offset that brings the time near its end, 2^64 - 1.
+pub fn whole_save(draw: &mut Draw, image: &Image, wall: u64) -> Option<Save> {
+    if !draw.one_in(3) {
+        return None;
+    }
+    let area = RAM_SIZES[image.codes[2] as usize];
+    let day = draw.of(&[0, 1, 255, 256, 509, 510, 511]);
+    let passed = match draw.below(8) {
+        0 | 1 => 0,
+        2 | 3 => draw.below(200),
+        4 | 5 => draw.below(2_000_000),
+        _ => draw.below(100_000_000),
+    };
+    let offset = match draw.below(8) {
+        0..=3 => 0,
+        4 | 5 => draw.below(100_000_000) as u64,
+        _ => u64::MAX - wall - draw.below(20_000) as u64,
+    };
+    let time = wall + offset;
+    let stored = if draw.one_in(8) { time.saturating_add(passed as u64) } else { time.saturating_sub(passed as u64) };
+    let mut block = vec![draw.below(64) as u8, draw.below(64) as u8, draw.below(32) as u8];
+    block.extend_from_slice(&u16::to_le_bytes(day));
+    block.extend_from_slice(&stored.to_le_bytes());
+    block.extend_from_slice(&offset.to_le_bytes());
+    Some(Save { len: area + 21, from: draw.below(PLACES as u32) as usize, block: Some((area, block)) })
+}
+
 /// A save for an image, often none.
 pub fn save(draw: &mut Draw, image: &Image, wall: u64) -> Option<Save> {
     let ram = *RAM_SIZES.get(image.codes[2] as usize)?;

@@ -12,7 +12,7 @@ use std::fmt;
 pub enum Access {
     Read(u16),
     Write(u16, u8),
-    Clocks(u32),
+    Clocks(u64),
 }
 
 impl fmt::Display for Access {
@@ -87,6 +87,8 @@ pub struct Machine {
     pub original: Box<Original>,
     pub kind: usize,
     pub timer: Option<Timer>,
+    /// Whether every clock is a call of the original's.
+    pub each: bool,
     /// What the last read gave, in the original and in the library.
     pub seen: Option<(u32, u32)>,
 }
@@ -167,7 +169,7 @@ pub fn mount(
         ours.windows = Some(windows);
     }
     let timer = facts.timer.then(|| Timer::new(wall));
-    let mut machine = Machine { ours, original, kind, timer, seen: None };
+    let mut machine = Machine { ours, original, kind, timer, each: false, seen: None };
     let goes_on = match save {
         Some(save) if facts.battery => machine.load(tally, save, wall, numbers[2] as usize)?,
         _ => true,
@@ -196,6 +198,7 @@ impl Machine {
             (0, Some(timer)) if save.len() >= area + 21 && clock == 1 => {
                 timer.left |= SAVE;
                 timer.stepwise.load(&save[area..], wall);
+                tally.timed.catch_up(&save[area..], timer.stepwise.time);
                 timer.lazy.load(&save[area..]);
                 Ok(true)
             }
@@ -267,35 +270,51 @@ impl Machine {
         match access {
             Access::Read(addr) => self.read(tally, image, addr),
             Access::Write(addr, byte) => self.write(tally, addr, byte),
-            Access::Clocks(n) => {
-                tally.accesses[self.kind][5] += 1;
-                let answer = sys::advance(&mut self.ours.state, n as u64);
-                if answer != 0 {
-                    return found(format!("the library refuses clocks with {}", answer));
-                }
-                self.original.clocks(n as u64);
-                if let Some(timer) = &mut self.timer {
-                    timer.due += timer.stepwise.completed(n as u64);
-                    if timer.left == 0 {
-                        tally.inside_seconds += timer.stepwise.completed(n as u64);
-                    }
-                    timer.stepwise.clocks(n as u64);
-                    timer.lazy.clocks(n as u64);
-                }
-                Ok(())
-            }
+            Access::Clocks(n) => self.clocks(tally, n),
         }
+    }
+
+    fn clocks(&mut self, tally: &mut Tally, n: u64) -> Result<(), Found> {
+        let late = self.timer.as_ref().map_or(false, |timer| timer.stepwise.is_late(n));
+        let answer = sys::advance(&mut self.ours.state, n);
+        if answer != if late { 17 } else { 0 } {
+            return found(format!("clocks: the library answers {}", answer));
+        }
+        // Where the time would pass 2^64 - 1 the original is given nothing.
+        if late {
+            tally.timed.refused[2] += 1;
+            return Ok(());
+        }
+        tally.accesses[self.kind][5] += 1;
+        if self.each {
+            self.original.clocks_each(n);
+        } else {
+            self.original.clocks(n);
+        }
+        if let Some(timer) = &mut self.timer {
+            let before = timer.stepwise.clone();
+            let seconds = before.completed(n);
+            timer.due += seconds;
+            if timer.left == 0 {
+                tally.inside_seconds += seconds;
+            }
+            timer.stepwise.clocks(n);
+            timer.lazy.clocks(n);
+            tally.timed.advance(&before, &timer.stepwise, n, self.each);
+        }
+        Ok(())
     }
 
     fn read(&mut self, tally: &mut Tally, image: &[u8], addr: u16) -> Result<(), Found> {
         let ours = self.ours.read(image, addr);
         if addr >= 0x8000 && !in_ram(addr) {
-            return outside(tally, ours.wrapping_sub(sys::REFUSED));
+            return self.outside(tally, ours.wrapping_sub(sys::REFUSED));
         }
         let original = self.original.read(addr) as u32;
         self.seen = Some((original, ours));
         tally.accesses[self.kind][(addr >> 14) as usize] += 1;
         if let Some(timer) = &mut self.timer {
+            tally.timed.read(timer, addr, self.ours.ram.len());
             if timer.on_clock(addr) {
                 let expected = timer.stepwise.read(timer.register) as u32;
                 let lazy = timer.lazy.read(timer.register) as u32;
@@ -331,13 +350,14 @@ impl Machine {
     fn write(&mut self, tally: &mut Tally, addr: u16, byte: u8) -> Result<(), Found> {
         let answer = self.ours.write(addr, byte);
         if addr >= 0x8000 && !in_ram(addr) {
-            return outside(tally, answer);
+            return self.outside(tally, answer);
         }
         if answer == 16 {
             if !matches!(self.kind, 4 | 5) || !self.original.write_stops(addr, byte) {
                 return found("the library 16, the original takes it".to_string());
             }
             tally.listed(Rule::Selection);
+            tally.timed.refused[1] += self.timer.is_some() as u64;
             return Ok(());
         }
         if answer != 0 {
@@ -345,6 +365,7 @@ impl Machine {
         }
         self.original.write(addr, byte);
         if let Some(timer) = &mut self.timer {
+            tally.timed.write(timer, addr, byte);
             timer.write(addr, byte);
         }
         tally.accesses[self.kind][if in_ram(addr) { 4 } else { 3 }] += 1;
@@ -360,6 +381,16 @@ impl Machine {
         })
     }
 
+    // An address that is no cartridge's: the original is not asked.
+    fn outside(&self, tally: &mut Tally, number: u32) -> Result<(), Found> {
+        if number != 15 {
+            return found(format!("an address outside: the library {}", number));
+        }
+        tally.listed(Rule::Address);
+        tally.timed.refused[0] += self.timer.is_some() as u64;
+        Ok(())
+    }
+
     pub fn ram(&self) -> &[u8] {
         &self.ours.ram
     }
@@ -371,15 +402,6 @@ impl Machine {
         room.truncate(size as usize);
         (answer == 0).then(|| room)
     }
-}
-
-// An address that is no cartridge's: the original is not asked.
-fn outside(tally: &mut Tally, number: u32) -> Result<(), Found> {
-    if number != 15 {
-        return found(format!("an address outside: the library {}", number));
-    }
-    tally.listed(Rule::Address);
-    Ok(())
 }
 
 fn answer(answer: u32) -> String {

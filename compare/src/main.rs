@@ -1,5 +1,6 @@
 //! Drives mizu-core 1.3.0's cartridge module, unchanged, and libplayer.a with the same images and accesses, and stops at the first
 //! difference that is on no list, with the smallest sequence that shows it. compare/README.md says how to run it.
+mod anytime;
 mod clocks;
 mod domain;
 mod draw;
@@ -12,6 +13,8 @@ mod play;
 mod recipe;
 mod states;
 mod tally;
+mod timed;
+mod timer;
 mod vectors;
 
 use draw::Draw;
@@ -34,7 +37,8 @@ extern "C" {
     fn dup2(from: i32, to: i32) -> i32;
 }
 
-/// What is played: an image, a save, the wall times of mounting and saving, and whether through windows.
+/// What is played: an image, a save, the wall times of mounting and saving, whether through windows, and whether every clock is a call
+/// of the original's.
 #[derive(Clone)]
 pub struct Case {
     pub image: Vec<u8>,
@@ -42,6 +46,7 @@ pub struct Case {
     pub wall: u64,
     pub later: u64,
     pub windows: bool,
+    pub each: bool,
 }
 
 pub struct Bench {
@@ -83,6 +88,7 @@ impl Bench {
                 Some(machine) => machine,
                 None => return Ok(()),
             };
+            machine.each = case.each;
             while let Some(access) = next(&machine, kept.len()) {
                 kept.push(access);
                 machine.step(tally, &case.image, access)?;
@@ -104,11 +110,18 @@ impl Bench {
         answer.err().map(|f| (kept.len(), f.what))
     }
 
-    /// Plays a case with drawn accesses; what is found is made small, written down, and ends the run.
-    fn case(&mut self, name: &str, case: &Case, draw: Draw, n: u32) {
-        let mut kept = Vec::with_capacity(n as usize);
+    /// Plays a case; what is found is made small, written down, and ends the run.
+    pub fn case(&mut self, name: &str, case: &Case, next: &mut dyn FnMut(&Machine, usize) -> Option<Access>) {
+        let mut kept = Vec::new();
+        if let Err(first) = self.play(case, true, &mut kept, next) {
+            self.report(name, case, kept, first);
+        }
+    }
+
+    // Plays a case with drawn accesses.
+    fn drawn_case(&mut self, name: &str, case: &Case, draw: Draw, n: u32) {
         let mut player = None;
-        let answer = self.play(case, true, &mut kept, &mut |machine, at| {
+        self.case(name, case, &mut |machine, at| {
             let player = player.get_or_insert_with(|| Player::new(draw.clone(), machine));
             if at < n as usize {
                 Some(player.next(machine))
@@ -116,9 +129,6 @@ impl Bench {
                 player.last(machine)
             }
         });
-        if let Err(first) = answer {
-            self.report(name, case, kept, first);
-        }
     }
 
     fn report(&mut self, name: &str, case: &Case, mut kept: Vec<Access>, first: Found) {
@@ -193,8 +203,9 @@ impl Bench {
         for (i, (image, accesses)) in all.into_iter().enumerate() {
             image.build(&self.base, &mut bytes);
             let windows = i % 2 == 1;
-            let case = Case { image: std::mem::take(&mut bytes), save: None, wall: 1000 + i as u64, later: 1000, windows };
-            self.case(&image.line(), &case, Draw::new(draw.next()), accesses);
+            let image_bytes = std::mem::take(&mut bytes);
+            let case = Case { image: image_bytes, save: None, wall: 1000 + i as u64, later: 1000, windows, each: false };
+            self.drawn_case(&image.line(), &case, Draw::new(draw.next()), accesses);
             bytes = case.image;
             if i % 10_000 == 9_999 {
                 self.say(&format!("{} of {} images that are not drawn, {} accesses", i + 1, n, self.tally.all_accesses()));
@@ -211,10 +222,10 @@ impl Bench {
             image.build(&self.base, &mut bytes);
             let built = save.as_ref().map(|save| save.build(&self.base));
             let n = accesses / 2 + draw.below(accesses + 1);
-            let case = Case { image: std::mem::take(&mut bytes), save: built, wall, later, windows: i % 2 == 1 };
+            let case = Case { image: std::mem::take(&mut bytes), save: built, wall, later, windows: i % 2 == 1, each: false };
             let name =
                 format!("drawn image {} of seed {}: {} {}", i, seed, image.line(), save.map_or(String::new(), |s| s.line()));
-            self.case(&name, &case, draw, n);
+            self.drawn_case(&name, &case, draw, n);
             bytes = case.image;
             if i % 5_000 == 4_999 {
                 self.say(&format!("{} drawn images, {} accesses", i + 1, self.tally.all_accesses()));
@@ -222,8 +233,8 @@ impl Bench {
         }
     }
 
-    // Short runs of clocks are run and long ones set: that both are the same is tried once.
-    fn check_clocks(&mut self) {
+    /// Short runs of clocks are run and long ones set: that both are the same is tried once, over these counts and those that are given.
+    fn check_clocks(&mut self, more: &[u64]) {
         let mut draw = Draw::new(1);
         let mut image = Vec::new();
         let (mut recipe, _, _, _) = one(&mut draw);
@@ -235,11 +246,12 @@ impl Bench {
             _ => panic!("the clock's image is refused"),
         };
         let (mut set, mut run) = (mount(&self.files), mount(&self.files));
-        for n in [49, 2_000_000, 97_102, 1, 2_097_152, 2_097_151, 2_097_153, 4_194_304] {
+        let mut both = |n: u64| {
             set.clocks(n);
             run.clocks_each(n);
             assert_eq!(set.fields(), run.fields(), "clocks that are set");
-        }
+        };
+        [49, 2_000_000, 97_102, 1, 2_097_152, 2_097_151, 2_097_153, 4_194_304].iter().chain(more).for_each(|n| both(*n));
         self.say("clocks that are set are the same as clocks that are run");
     }
 }
@@ -260,12 +272,18 @@ fn keep(folder: &Path, case: &Case, accesses: &[Access], text: &str) {
         match access {
             Access::Read(addr) => trace.extend_from_slice(&[&b"RD"[..], &addr.to_le_bytes()].concat()),
             Access::Write(addr, byte) => trace.extend_from_slice(&[&b"WR"[..], &addr.to_le_bytes(), &[*byte]].concat()),
-            Access::Clocks(n) => trace.extend_from_slice(&[&b"CK"[..], &n.to_le_bytes()].concat()),
+            // A record has a count of four bytes: a longer advance is several.
+            Access::Clocks(n) => {
+                let most = u32::MAX as u64;
+                let counts = (0..n / most).map(|_| u32::MAX).chain([(n % most) as u32]);
+                counts.for_each(|n| trace.extend_from_slice(&[&b"CK"[..], &n.to_le_bytes()].concat()));
+            }
         }
     }
+    let times = format!("{} {} {} {}\n", case.wall, case.later, case.windows as u8, case.each as u8);
     std::fs::write(folder.join("cart.rom"), &case.image).unwrap();
     std::fs::write(folder.join("cart.trace"), trace).unwrap();
-    std::fs::write(folder.join("times"), format!("{} {} {}\n", case.wall, case.later, case.windows as u8)).unwrap();
+    std::fs::write(folder.join("times"), times).unwrap();
     std::fs::write(folder.join("what"), text).unwrap();
     match &case.save {
         Some(save) => std::fs::write(folder.join("cart.sav"), save).unwrap(),
@@ -279,14 +297,14 @@ fn replay(bench: &mut Bench, folder: &Path) {
     let times = read("times").map_or(String::new(), |b| String::from_utf8(b).unwrap());
     let times: Vec<u64> = times.split_whitespace().map(|w| w.parse().unwrap()).collect();
     let time = |i: usize| times.get(i).copied().unwrap_or(0);
-    let (wall, later, windows) = (time(0), time(1), time(2) == 1);
-    let case = Case { image: read("cart.rom").unwrap(), save: read("cart.sav").ok(), wall, later, windows };
+    let (wall, later, windows, each) = (time(0), time(1), time(2) == 1, time(3) == 1);
+    let case = Case { image: read("cart.rom").unwrap(), save: read("cart.sav").ok(), wall, later, windows, each };
     let trace = read("cart.trace").unwrap();
     let accesses: Vec<Access> = Records::new(&trace)
         .map(|record| match record.expect("a whole trace") {
             Record::Read(addr) => Access::Read(addr),
             Record::Write(addr, byte) => Access::Write(addr, byte),
-            Record::Clocks(n) => Access::Clocks(n),
+            Record::Clocks(n) => Access::Clocks(n as u64),
         })
         .collect();
     let (mut kept, mut lines) = (Vec::new(), String::new());
@@ -352,11 +370,12 @@ fn main() {
             bench.stop(bad as i32);
         }
         Some("vectors") => vectors::write(&mut bench, seed, Path::new(option("--to").expect("--to FILE"))),
+        Some("timer") => timer::run(&mut bench, seed, number("--boards", 12_000), number("--accesses", 2_000) as u32),
         Some("replay") => replay(&mut bench, Path::new(&words[1])),
         _ => {
             let (images, accesses) = (number("--images", 100_000), number("--accesses", 2_000) as u32);
             bench.say(&format!("seed {}, {} drawn images, {} accesses for each that is taken", seed, images, accesses));
-            bench.check_clocks();
+            bench.check_clocks(&[]);
             // Some drawn ones first: they find most of what can be wrong in seconds.
             let some = images.min(2_000);
             bench.drawn(seed, 0..some, accesses);

@@ -19,13 +19,14 @@ const BYTES: [u8; 24] = [
     0x00, 0x01, 0x02, 0x03, 0x04, 0x08, 0x09, 0x0A, 0x0B, 0x0C, 0x0F, 0x10, 0x11, 0x12, 0x1A, 0x1F, 0x20, 0x30, 0x3F, 0x40, 0x60,
     0x7F, 0x80, 0xFF,
 ];
-const STRANGE: [u16; 8] = [0x8000, 0x8001, 0x9FFF, 0xC000, 0xC001, 0xDFFF, 0xFEFF, 0xFFFF];
+pub const STRANGE: [u16; 8] = [0x8000, 0x8001, 0x9FFF, 0xC000, 0xC001, 0xDFFF, 0xFEFF, 0xFFFF];
 
 pub struct Player {
     pub draw: Draw,
     /// The clauses of the domain that may be left.
     permitted: u8,
-    next: VecDeque<Access>,
+    /// What is drawn already.
+    pub next: VecDeque<Access>,
 }
 
 impl Player {
@@ -60,7 +61,12 @@ impl Player {
         player
     }
 
-    fn byte(&mut self) -> u8 {
+    /// One that may leave every clause.
+    pub fn anywhere(draw: Draw) -> Player {
+        Player { draw, permitted: 0x3F, next: VecDeque::new() }
+    }
+
+    pub fn byte(&mut self) -> u8 {
         if self.draw.one_in(2) {
             self.draw.of(&BYTES)
         } else {
@@ -68,7 +74,7 @@ impl Player {
         }
     }
 
-    fn ram_addr(&mut self) -> u16 {
+    pub fn ram_addr(&mut self) -> u16 {
         if self.draw.one_in(3) {
             self.draw.of(&EDGES[10..])
         } else {
@@ -76,7 +82,7 @@ impl Player {
         }
     }
 
-    fn rom_addr(&mut self) -> u16 {
+    pub fn rom_addr(&mut self) -> u16 {
         if self.draw.one_in(3) {
             self.draw.of(&EDGES[..10])
         } else {
@@ -99,8 +105,8 @@ impl Player {
         }
     }
 
-    // A register and then the windows' edges.
-    fn bank(&mut self, machine: &Machine) -> Access {
+    /// A register and then the windows' edges.
+    pub fn bank(&mut self, machine: &Machine) -> Access {
         let n = 1 + self.draw.below(4);
         let addr = self.register();
         let mut byte = self.byte();
@@ -112,7 +118,8 @@ impl Player {
         Write(addr, byte)
     }
 
-    fn clock(&mut self, timer: &Timer) -> Access {
+    /// Something of the clock's: its registers, its latch, time that passes.
+    pub fn clock(&mut self, timer: &Timer) -> Access {
         let high = self.byte() & 0xF0;
         match self.draw.below(16) {
             0..=2 => {
@@ -164,27 +171,26 @@ impl Player {
                 self.next.push_back(Write(0xA000, self.draw.below(2) as u8));
                 Write(0x4000, 0x0C)
             }
-            10 => Clocks(1 + self.draw.below(60)),
+            10 => Clocks(1 + self.draw.below(60) as u64),
             _ => {
-                let second = SECOND as u32;
-                let left = second - timer.stepwise.sub as u32;
-                let drawn = self.draw.below(second);
+                let left = SECOND - timer.stepwise.sub;
+                let drawn = self.draw.below(SECOND as u32) as u64;
                 if self.permitted & UNREAD != 0 && self.draw.one_in(2) {
                     let seconds = match self.draw.below(20) {
                         0 => self.draw.below(2047),
                         1..=6 => self.draw.below(300),
                         _ => self.draw.below(70),
                     };
-                    return Clocks(seconds * second + drawn);
+                    return Clocks(seconds as u64 * SECOND + drawn);
                 }
                 self.draw.of(&[
                     Clocks(left),
                     Clocks(left),
                     Clocks(left),
                     Clocks(left - 1),
-                    Clocks(second),
+                    Clocks(SECOND),
                     Clocks(drawn),
-                    Clocks(second - 1),
+                    Clocks(SECOND - 1),
                 ])
             }
         }
@@ -211,7 +217,7 @@ impl Player {
             57..=60 => {
                 Write(self.draw.of(&[0x0000, 0x0000, 0x1EFF, 0x3E00]), self.draw.of(&[0x0A, 0x0A, 0x0A, 0x1A, 0x0B, 0x00]))
             }
-            61 => Clocks(1 + self.draw.below(48)),
+            61 => Clocks(1 + self.draw.below(48) as u64),
             62 => Read(self.draw.of(&STRANGE)),
             _ => Write(self.draw.of(&STRANGE), self.draw.byte()),
         }

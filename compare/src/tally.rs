@@ -1,4 +1,5 @@
 //! What was compared, and the listed differences by their rules.
+use crate::timed::Timed;
 use std::fmt::Write;
 
 /// The rules of docs/DIFFERENCES.md, by the names that it gives them.
@@ -65,7 +66,7 @@ impl Rule {
 }
 
 pub const KINDS: [&str; 7] = ["NoMapper", "MBC1", "MBC1 multicart", "MBC2", "MBC3", "MBC3 with timer", "MBC5"];
-const COLUMNS: [&str; 6] = ["rom0 reads", "romx reads", "RAM reads", "register writes", "RAM writes", "clocks"];
+pub const COLUMNS: [&str; 6] = ["rom0 reads", "romx reads", "RAM reads", "register writes", "RAM writes", "clocks"];
 
 #[derive(Clone, Default)]
 pub struct Tally {
@@ -85,6 +86,7 @@ pub struct Tally {
     /// The last clock blocks that were not the same, in the original's save and the library's.
     pub saves_apart: Option<(String, String)>,
     pub rules: [u64; 16],
+    pub timed: Timed,
 }
 
 impl Tally {
