@@ -95,14 +95,25 @@ impl Anytime {
         let (low, high) = (self.player.draw.below(0x4000) as u16, 0x4000 + self.player.draw.below(0x4000) as u16);
         self.player.next.push_back(Read(low));
         self.player.next.push_back(Read(high));
-        if self.player.draw.one_in(2) {
-            let bank = self.player.draw.below(4) as u8;
-            self.player.next.push_back(Write(0x4000, bank));
-        }
+        self.maybe_ram();
         for _ in 0..1 + self.player.draw.below(3) {
             let addr = self.player.ram_addr();
             self.player.next.push_back(Read(addr));
         }
+    }
+
+    fn maybe_ram(&mut self) {
+        if self.player.draw.one_in(2) {
+            let bank = self.player.draw.below(4) as u8;
+            self.player.next.push_back(Write(0x4000, bank));
+        }
+    }
+
+    // Time that passes behind a clock register that was written, which is then selected, or RAM.
+    fn pass(&mut self, clocks: u64) {
+        self.maybe_ram();
+        self.player.next.push_back(Clocks(clocks));
+        self.look();
     }
 
     // A register at its stop and beyond it, a carry, a halt; and then time.
@@ -118,8 +129,7 @@ impl Anytime {
         let byte = if register == 0xC { byte } else { byte | high };
         self.player.next.push_back(Write(0x4000, register));
         self.player.next.push_back(Write(0xBFFF, byte as u8));
-        self.player.next.push_back(Clocks(clocks));
-        self.look();
+        self.pass(clocks);
         Write(0x0000, 0x0A)
     }
 
@@ -131,8 +141,7 @@ impl Anytime {
             self.player.next.push_back(Write(0xA000, byte));
         }
         let more = self.player.draw.of(&[0, 0, 1, SECOND - 1, 2 * SECOND]);
-        self.player.next.push_back(Clocks(left * SECOND + more));
-        self.look();
+        self.pass(left * SECOND + more);
         Write(0x0000, 0x0A)
     }
 

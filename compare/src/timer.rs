@@ -22,7 +22,7 @@ struct Pace {
 // are few: each takes as long as hundreds of the others.
 fn pace(i: u64) -> Pace {
     let (each, seconds) = match i {
-        _ if i % 2_000 == 77 => (false, 700 * DAY),
+        _ if i % 1_000 == 77 => (false, 700 * DAY),
         _ if i % 8 == 3 => (true, 16),
         _ if i % 16 == 5 => (false, 4 * DAY),
         _ => (false, DAY / 4),
@@ -51,7 +51,12 @@ pub fn run(bench: &mut Bench, seed: u64, boards: u64, accesses: u32) {
 
 // Plays a board that is drawn, and gives its RAM code.
 fn board(bench: &mut Bench, name: &str, pace: Pace, mut draw: Draw, accesses: u32) -> usize {
-    let image = images::with_timer(&mut draw);
+    let mut image = images::with_timer(&mut draw);
+    // There are few long ones, so none of them is without RAM that is mapped.
+    if pace.long {
+        image.codes[0] = 0x10;
+        image.codes[2] = 2 + draw.below(4) as u8;
+    }
     let wall = draw.of(&[0, 1000, 1_700_000_000, 1 << 40, 1 << 62]) + draw.below(5000) as u64;
     let save = images::whole_save(&mut draw, &image, wall);
     let mut bytes = Vec::new();
