@@ -6,6 +6,7 @@ mod domain;
 mod draw;
 mod ending;
 mod images;
+mod kept;
 mod machine;
 mod original;
 mod play;
@@ -18,7 +19,6 @@ mod timer;
 mod vectors;
 
 use draw::Draw;
-use imfelkuz::trace::{Record, Records};
 use machine::{Access, Found, Machine};
 use original::Files;
 use play::Player;
@@ -189,7 +189,7 @@ impl Bench {
         text += &format!("; {}\n", if case.windows { "through windows" } else { "through calls" });
         kept.iter().for_each(|a| text += &format!("{}\n", a));
         let folder = self.out.join("found");
-        keep(&folder, &case, &kept, &text);
+        kept::keep(&folder, &case, &kept, &text);
         self.print(&text);
         self.print(&format!("kept in {}: `make replay DIR=..` where it fits, `compare replay ..` always\n", folder.display()));
         self.stop(1);
@@ -264,75 +264,6 @@ fn one(draw: &mut Draw) -> (Image, Option<Save>, u64, u64) {
     (image, save, wall, later)
 }
 
-/// Writes a case for `make replay` and `compare replay`.
-fn keep(folder: &Path, case: &Case, accesses: &[Access], text: &str) {
-    std::fs::create_dir_all(folder).unwrap();
-    let mut trace = Vec::new();
-    for access in accesses {
-        match access {
-            Access::Read(addr) => trace.extend_from_slice(&[&b"RD"[..], &addr.to_le_bytes()].concat()),
-            Access::Write(addr, byte) => trace.extend_from_slice(&[&b"WR"[..], &addr.to_le_bytes(), &[*byte]].concat()),
-            // A record has a count of four bytes: a longer advance is several.
-            Access::Clocks(n) => {
-                let most = u32::MAX as u64;
-                let counts = (0..n / most).map(|_| u32::MAX).chain([(n % most) as u32]);
-                counts.for_each(|n| trace.extend_from_slice(&[&b"CK"[..], &n.to_le_bytes()].concat()));
-            }
-        }
-    }
-    let times = format!("{} {} {} {}\n", case.wall, case.later, case.windows as u8, case.each as u8);
-    std::fs::write(folder.join("cart.rom"), &case.image).unwrap();
-    std::fs::write(folder.join("cart.trace"), trace).unwrap();
-    std::fs::write(folder.join("times"), times).unwrap();
-    std::fs::write(folder.join("what"), text).unwrap();
-    match &case.save {
-        Some(save) => std::fs::write(folder.join("cart.sav"), save).unwrap(),
-        None => drop(std::fs::remove_file(folder.join("cart.sav"))),
-    }
-}
-
-// A case that was kept, or made by hand: cart.rom, cart.trace, and where they are there cart.sav and times.
-fn replay(bench: &mut Bench, folder: &Path) {
-    let read = |name: &str| std::fs::read(folder.join(name));
-    let times = read("times").map_or(String::new(), |b| String::from_utf8(b).unwrap());
-    let times: Vec<u64> = times.split_whitespace().map(|w| w.parse().unwrap()).collect();
-    let time = |i: usize| times.get(i).copied().unwrap_or(0);
-    let (wall, later, windows, each) = (time(0), time(1), time(2) == 1, time(3) == 1);
-    let case = Case { image: read("cart.rom").unwrap(), save: read("cart.sav").ok(), wall, later, windows, each };
-    let trace = read("cart.trace").unwrap();
-    let accesses: Vec<Access> = Records::new(&trace)
-        .map(|record| match record.expect("a whole trace") {
-            Record::Read(addr) => Access::Read(addr),
-            Record::Write(addr, byte) => Access::Write(addr, byte),
-            Record::Clocks(n) => Access::Clocks(n as u64),
-        })
-        .collect();
-    let (mut kept, mut lines) = (Vec::new(), String::new());
-    let answer = bench.play(&case, true, &mut kept, &mut |machine, n| {
-        if let Some((original, ours)) = machine.seen {
-            lines += &format!("  original {:02X}, library {:02X}\n", original, ours);
-        }
-        let access = accesses.get(n).copied();
-        access.iter().for_each(|access| lines += &format!("{}\n", access));
-        access
-    });
-    bench.print(&lines);
-    match answer {
-        Ok(()) => {
-            if let Some((original, ours)) = bench.tally.saves_apart.clone() {
-                bench.print(&format!("saves: original {}, library {}\n", original, ours));
-            }
-            let rules: Vec<&str> =
-                tally::RULES.iter().zip(&bench.tally.rules).filter(|(_, n)| **n > 0).map(|(r, _)| r.words()).collect();
-            bench.print(&format!("no unlisted difference; listed: {:?}\n", rules));
-        }
-        Err(found) => {
-            bench.print(&format!("{}\n", found.what));
-            bench.stop(1);
-        }
-    }
-}
-
 fn main() {
     let words: Vec<String> = std::env::args().skip(1).collect();
     let option = |name: &str| words.iter().position(|w| w == name).map(|i| words[i + 1].as_str());
@@ -371,7 +302,7 @@ fn main() {
         }
         Some("vectors") => vectors::write(&mut bench, seed, Path::new(option("--to").expect("--to FILE"))),
         Some("timer") => timer::run(&mut bench, seed, number("--boards", 12_000), number("--accesses", 2_000) as u32),
-        Some("replay") => replay(&mut bench, Path::new(&words[1])),
+        Some("replay") => kept::replay(&mut bench, Path::new(&words[1])),
         _ => {
             let (images, accesses) = (number("--images", 100_000), number("--accesses", 2_000) as u32);
             bench.say(&format!("seed {}, {} drawn images, {} accesses for each that is taken", seed, images, accesses));
