@@ -1,6 +1,6 @@
 -- The domain inside which the Rust is the oracle, a premise on a sequence of accesses over our own run of it (document 01,
 -- "The clock", last paragraph, and "The bus", demand 2's domain). Each clause stands under the words that it says. No access
--- makes a save or reads one: "no save has been read" stands in `Begins`.
+-- makes a save or reads one: "no save has been read" is a clause on a game (`original_saves` `Unread`).
 use mathlib.Core.Bool.{Bool, true, not}
 use mathlib.Core.List.{List, [], _∷_}
 use mathlib.Core.Path.{_≡_}
@@ -132,9 +132,12 @@ pub record Allowed (m : Mapper) (s : Since) (a : Access) (next : Mapper) : Type 
   pub clear : timed clear next ≡ true
   pub proper : timed (proper a) m ≡ true
 
--- a sequence of accesses to a machine mounted from rom
-abbrev pub InDomain : List ℕ → Machine → Since → List Access → Type 0
-InDomain rom m s [] = Unit {0}
-InDomain rom m s (a ∷ as′) =
+-- what holds of each access of a sequence to a machine mounted from rom: of its mapper, of what was before, and of what it leaves
+abbrev pub EachStep : (Mapper → Since → Access → Mapper → Type 0) → List ℕ → Machine → Since → List Access → Type 0
+EachStep P rom m s [] = Unit {0}
+EachStep P rom m s (a ∷ as′) =
     let next = stepOf rom m a .left in
-    Allowed (m .cart .mapper) s a (next .cart .mapper) × InDomain rom next (sinceAfter (m .cart .mapper) s a) as′
+    P (m .cart .mapper) s a (next .cart .mapper) × EachStep P rom next (sinceAfter (m .cart .mapper) s a) as′
+
+abbrev pub InDomain : List ℕ → Machine → Since → List Access → Type 0
+InDomain = EachStep Allowed

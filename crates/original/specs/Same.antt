@@ -11,6 +11,7 @@ use Rattle.bytes_le.specs.Little.{Octets}
 use Rattle.header.specs.Size.{ramSizes}
 use Rattle.mbc1.specs.declared.Mbc1 as our1
 use Rattle.mbc2.specs.declared.Mbc2 as our2
+use Rattle.mbc3.specs.declared.Mbc3 as our3
 use Rattle.mbc5.specs.declared.Mbc5 as our5
 use Rattle.mapper.specs.Mappers.{holds, fitRegisters, areaOf}
 use Rattle.mapper.specs.declared.Mapper.{Mapper}
@@ -44,13 +45,17 @@ abbrev pub mbc5Of : ℕ → ℕ → Bool → our5.Mbc5 → mbc5.Mbc5
 mbc5Of banks size rumble m =
     mbc5.mbc5 banks (eqb size 0x800) (asU8 (size / 0x2000)) (m .enabled) (m .ram) (m .bank) rumble
 
--- MBC5's motor is in no answer, so ours does not keep it. MBC3's clock follows ours, with what is known of the accesses before
+-- MBC5's motor is in no answer, so ours does not keep it. How far MBC3's clock goes with ours is a relation of its own
+abbrev pub MapperBy : (our3.Mbc3 → mbc3.Mbc3 → Type 0) → ℕ → ℕ → List ℕ → Mapper → original.Mapper → Type 0
+MapperBy R banks size area (NoMapper m) o = o ≡ original.NoMapper (noneOf size)
+MapperBy R banks size area (Mbc1 m) o = o ≡ original.Mbc1 (mbc1Of banks size m)
+MapperBy R banks size area (Mbc2 m) o = o ≡ original.Mbc2 (mbc2Of banks (drop size area) m)
+MapperBy R banks size area (Mbc3 m) o = (x : mbc3.Mbc3) × (o ≡ original.Mbc3 x) × R m x
+MapperBy R banks size area (Mbc5 m) o = (rumble : Bool) × (o ≡ original.Mbc5 (mbc5Of banks size rumble m))
+
+-- here it follows ours, with what is known of the accesses before
 abbrev pub SameMapper : ℕ → ℕ → List ℕ → Since → Mapper → original.Mapper → Type 0
-SameMapper banks size area s (NoMapper m) o = o ≡ original.NoMapper (noneOf size)
-SameMapper banks size area s (Mbc1 m) o = o ≡ original.Mbc1 (mbc1Of banks size m)
-SameMapper banks size area s (Mbc2 m) o = o ≡ original.Mbc2 (mbc2Of banks (drop size area) m)
-SameMapper banks size area s (Mbc3 m) o = (x : mbc3.Mbc3) × (o ≡ original.Mbc3 x) × follows.Same banks size s m x
-SameMapper banks size area s (Mbc5 m) o = (rumble : Bool) × (o ≡ original.Mbc5 (mbc5Of banks size rumble m))
+SameMapper banks size area s = MapperBy (follows.Same banks size s) banks size area
 
 -- ---- the machine
 
