@@ -16,3 +16,4 @@ pub mod Same
 pub mod Step
 pub mod Verdict
 pub mod Along
+pub mod Parting
