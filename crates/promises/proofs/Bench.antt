@@ -1,7 +1,8 @@
 -- The bench table of document 01, as one statement over its eight rows. Assumes nothing.
 use mathlib.Core.Bool.{Bool, true, false}
-use mathlib.Core.Path.{_≡_, refl, sym}
-use Prim.Native.Nat.{ℕ, _+_, _<_, _≤_}
+use mathlib.Core.Path.{_≡_, refl, sym, ap}
+use Prim.Native.Nat.{ℕ, _+_, _%_, _<_, _≤_}
+use native.Mathlib.Omega.{arith}
 use Rattle.facts.specs.Counter.{carries, step, stepIf}
 use Rattle.facts.proofs.ChoiceLaws.{either-true, either-false}
 use Rattle.clock.specs.Fit.{fitClock}
@@ -12,7 +13,7 @@ use Rattle.clock.specs.declared.Advanced.the-variants.{To}
 use Rattle.clock.proofs.AnswerLaws.{taken-answer}
 use Rattle.runs.specs.Time.{secondsOf}
 use Rattle.runs.proofs.TimeLaws.{taken-seconds}
-use borrow.Author.Tests.{lt-ltb, le-ltb}
+use borrow.Author.Tests.{ne-eqb, lt-ltb, le-ltb}
 use Rattle.facts.specs.Banking.{placeOf}
 use Rattle.banking.specs.Banks.{orOne}
 use Rattle.mbc1.specs.Registers as mbc1
@@ -58,3 +59,13 @@ bench d h m s x c = (
     ),
   ),
 )
+
+-- Row 7's next second: after any but 59 the one after it, 0 after 63, and nothing else moves;
+pub next-second : (d h m s : ℕ) (c : Bool) → s < 64 → (s ≡ 59 → ⊥) → secondOn (at d h m s c) ≡ at d h m ((s + 1) % 64) c
+unfolding secondOn step stepIf carries
+next-second d h m s c l n = rw (ne-eqb ((s + 1) % 64) 60 (λ e. n (omega (arith, e)))) (ap (at d h m ((s + 1) % 64)) (either-false c))
+
+-- after 59 it is 0, and the minute steps.
+pub next-minute : (d h m : ℕ) (c : Bool) → m < 64 → (m ≡ 59 → ⊥) → secondOn (at d h m 59 c) ≡ at d h ((m + 1) % 64) 0 c
+unfolding secondOn step stepIf carries
+next-minute d h m c l n = rw (ne-eqb ((m + 1) % 64) 60 (λ e. n (omega (arith, e)))) (ap (at d h ((m + 1) % 64) 0) (either-false c))
