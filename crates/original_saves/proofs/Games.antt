@@ -1,6 +1,6 @@
 -- Whole games against the Rust itself: what it reads of a save that we accept, what it answers, and what it writes. Assumes nothing.
 use mathlib.Core.Bool.{Bool, true, false}
-use mathlib.Core.List.{List, [], _++_}
+use mathlib.Core.List.{List, []}
 use mathlib.Core.Logic.{_⊎_, inl, inr, _↔_}
 use mathlib.Core.Option.{Option, none, some}
 use mathlib.Core.Path.{_≡_, refl, sym, ap, _∙_, subst}
@@ -8,7 +8,6 @@ use Prim.Native.Nat.{ℕ, zero, suc, _<_, _≤_}
 use native.Mathlib.Omega.{arith}
 use lib.ListN.{length, take, drop, drop-of-length-le}
 use lib.Seq.{take-at}
-use Rattle.facts.specs.Choice.{pick}
 use Rattle.facts.proofs.RefusalLaws.{none-if, none-accepts}
 use Rattle.bytes_le.specs.Little.{valueOf, fieldAt}
 use Rattle.clock_registers.specs.declared.Registers.{Registers}
@@ -25,35 +24,29 @@ use Rattle.runs.specs.Game.{Game, mountedMachine, answerTo, Readable, begins}
 use Rattle.runs.specs.Calls.{Calls}
 use Rattle.runs.specs.Calls as calls
 use Rattle.runs.proofs.RunLaws.{mount-ready}
-use Rattle.original.specs.Machine.{Outcome, ok, u64}
-use Rattle.original.specs.Cartridge.{Cartridge, Result, taken}
+use Rattle.original.specs.Machine.{ok, u64}
+use Rattle.original.specs.Cartridge.{Cartridge, taken}
 use Rattle.original.specs.Step.{originalRun}
-use Rattle.original.specs.Verdict.{cartridgeOf}
 use Rattle.original.proofs.StartLaws.{start-same}
 use Rattle.board.proofs.Board.{same-beside, all-held}
 use Rattle.refused.specs.Kept.{keptAnswers}
-use Rattle.original_saves.specs.SramFile.{loadSramFile, loadSave, readInto, saveSramFile}
+use Rattle.original_saves.specs.SramFile.{loadSramFile, readInto, saveSramFile}
 use Rattle.original_saves.specs.Written.{WritesSame}
 use Rattle.original_saves.specs.ReadIn.{Harmless, CutBlock, Prompt}
 use Rattle.original_saves.specs.Game.{ClockHolds, NothingDue, Unseen, CutHarmless, ClockBegins, given, pastOf, GameAgrees}
 use Rattle.original_saves.proofs.WrittenLaws.{writes-same, due-parts}
 use Rattle.original_saves.proofs.LoadLaws.{accepted-so, load-ready-any}
-use Rattle.original_saves.proofs.ReadInLaws.{mounted-battery, reads-beside}
-use Rattle.original_saves.proofs.StopLaws.{with-read}
+use Rattle.original_saves.proofs.ReadInLaws.{not-read, mountedRust, with-read, battery-is, reads-beside}
 use Rattle.original_saves.proofs.GameLaws.{game, left-ready}
 
 -- ---- 1. the game
 
 -- a file that can't be opened is none
 no-file : (o : Cartridge) → readInto none (taken o) ≡ ok (taken o)
-unfolding loadSave loadSramFile
-no-file o = go (o .type .battery)
-  where
-    go : (t : Bool) → _≡_ {A = Outcome Result} (pick t (ok (taken o)) (ok (taken o))) (ok (taken o))
-    go true = refl
-    go false = refl
+unfolding loadSramFile
+no-file o = not-read none o refl
 
-pub game-ready : (g : Game) (file : Option (List ℕ)) → Readable g file → Ready (g .image) (begins g file)
+game-ready : (g : Game) (file : Option (List ℕ)) → Readable g file → Ready (g .image) (begins g file)
 game-ready g none r = mount-ready (g .image) (g .area) (g .wall) (g .cart) (g .mounts)
 game-ready g (some save) r =
     load-ready-any save (g .wall) (mount-ready (g .image) (g .area) (g .wall) (g .cart) (g .mounts))
@@ -64,10 +57,9 @@ pub game-agrees : (g : Game) (file : Option (List ℕ)) → Readable g file → 
     → calls.Octets accesses → Unseen g file accesses → {xs : List Answer} {n : Machine} → Calls (g .image) (begins g file) accesses xs n
     → GameAgrees g file accesses xs n
 game-agrees g none r c accesses b u made =
-    let x = start-same g in
-    let o = cartridgeOf (g .image) (g .wall) (x .facts) in
-    game g none o (with-read g none ∙ no-file o) (mounted-battery g (x .facts) (x .accepted)) (game-ready g none r) (same-beside (x .same))
-    (λ _. x .same) accesses b u made
+    let same = start-same g .same in
+    game g none (mountedRust g) (with-read g none ∙ no-file (mountedRust g)) (battery-is g) (game-ready g none r) (same-beside same)
+    (λ _. same) accesses b u made
 game-agrees g (some save) r c accesses b u made =
     let x = reads-beside g save (r .0) (accepted-so (answerTo (mountedMachine g) save (g .wall)) (r .1)) c in
     game g (some save) (x .start) (x .takes) (x .battery) (game-ready g (some save) r) (x .beside) (goes (x .same)) accesses b u made
