@@ -20,10 +20,11 @@ use Rattle.save_file.specs.Save.{bytesOf, saveNoes, saveOf, roomAfter, roomBy}
 use Rattle.save_file.specs.declared.Saved.{Saved}
 use Rattle.save_file.specs.declared.Saved.the-variants.{Wrote, Refuse}
 use Rattle.bus.specs.Run.{Access, Answer, Machine, Ready}
-use Rattle.runs.specs.Game.{Game, mountedMachine, answerTo, Readable, begins}
+use Rattle.runs.specs.Game.{Game, Readable, begins}
 use Rattle.runs.specs.Calls.{Calls}
 use Rattle.runs.specs.Calls as calls
 use Rattle.runs.proofs.RunLaws.{mount-ready}
+use Rattle.runs.proofs.SaveLaws.{load-ready}
 use Rattle.original.specs.Machine.{ok, u64}
 use Rattle.original.specs.Cartridge.{Cartridge, taken}
 use Rattle.original.specs.Step.{originalRun}
@@ -35,7 +36,6 @@ use Rattle.original_saves.specs.Written.{WritesSame}
 use Rattle.original_saves.specs.ReadIn.{Harmless, CutBlock, Prompt}
 use Rattle.original_saves.specs.Game.{ClockHolds, NothingDue, Unseen, CutHarmless, ClockBegins, given, pastOf, GameAgrees}
 use Rattle.original_saves.proofs.WrittenLaws.{writes-same, due-parts}
-use Rattle.original_saves.proofs.LoadLaws.{accepted-so, load-ready-any}
 use Rattle.original_saves.proofs.ReadInLaws.{not-read, mountedRust, with-read, battery-is, reads-beside}
 use Rattle.original_saves.proofs.GameLaws.{game, left-ready}
 
@@ -46,11 +46,9 @@ no-file : (o : Cartridge) → readInto none (taken o) ≡ ok (taken o)
 unfolding loadSramFile
 no-file o = not-read none o refl
 
-game-ready : (g : Game) (file : Option (List ℕ)) → Readable g file → Ready (g .image) (begins g file)
-game-ready g none r = mount-ready (g .image) (g .area) (g .wall) (g .cart) (g .mounts)
-game-ready g (some save) r =
-    load-ready-any save (g .wall) (mount-ready (g .image) (g .area) (g .wall) (g .cart) (g .mounts))
-    (accepted-so (answerTo (mountedMachine g) save (g .wall)) (r .1))
+game-ready : (g : Game) (file : Option (List ℕ)) → Ready (g .image) (begins g file)
+game-ready g none = mount-ready (g .image) (g .area) (g .wall) (g .cart) (g .mounts)
+game-ready g (some save) = load-ready save (g .wall) (mount-ready (g .image) (g .area) (g .wall) (g .cart) (g .mounts))
 
 -- Any game with its save file, or none, any list of accesses of bytes, and any answers that our calls give and leave n.
 pub game-agrees : (g : Game) (file : Option (List ℕ)) → Readable g file → CutHarmless g file → (accesses : List Access)
@@ -58,11 +56,11 @@ pub game-agrees : (g : Game) (file : Option (List ℕ)) → Readable g file → 
     → GameAgrees g file accesses xs n
 game-agrees g none r c accesses b u made =
     let same = start-same g .same in
-    game g none (mountedRust g) (with-read g none ∙ no-file (mountedRust g)) (battery-is g) (game-ready g none r) (same-beside same)
+    game g none (mountedRust g) (with-read g none ∙ no-file (mountedRust g)) (battery-is g) (game-ready g none) (same-beside same)
     (λ _. same) accesses b u made
 game-agrees g (some save) r c accesses b u made =
-    let x = reads-beside g save (r .0) (accepted-so (answerTo (mountedMachine g) save (g .wall)) (r .1)) c in
-    game g (some save) (x .start) (x .takes) (x .battery) (game-ready g (some save) r) (x .beside) (goes (x .same)) accesses b u made
+    let x = reads-beside g save (r .0) (r .1) c in
+    game g (some save) (x .start) (x .takes) (x .battery) (game-ready g (some save)) (x .beside) (goes (x .same)) accesses b u made
   where
     goes : {A B : Type 0} → (A → B) → ⊥ ⊎ A → B
     goes f (inl h) = absurd h
@@ -86,7 +84,7 @@ pub save-is-ours : {g : Game} {file : Option (List ℕ)} → Readable g file →
     → {xs : List Answer} {n : Machine} → Calls (g .image) (begins g file) accesses xs n → (a : GameAgrees g file accesses xs n)
     → ClockHolds g file accesses → (now : ℕ) → NothingDue g file accesses n ↔ WritesSame n (a .left) now
 save-is-ours {g} {file} r {accesses} b made a h now =
-    let ready = left-ready g file (game-ready g file r) accesses b made in (
+    let ready = left-ready g file (game-ready g file) accesses b made in (
       (λ due. writes-same ready (a .same h) due now),
       (λ w t. none-due _ (λ n. due-parts ready (a .same h) t n now w)),
     )

@@ -153,9 +153,10 @@ load-wrote s area bytes wall w =
 
     go : (a : Loaded) → load.loadOf (k .cart) area bytes wall ≡ a → Wrote (loadedState s a)
     go (loaded.Whole d) e =
-        let t = saves.load-taken (k .cart) area bytes wall d e in
+        let t = saves.whole-taken (k .cart) area bytes wall d e in
         made d (saves.load-fit (k .cart) d area bytes wall e)
-        (subst (λ (x : Cartridge). InTime (x .mapper)) (sym (t .is)) (timing.woken-in-time (k .cart .mapper) _ wall (t .early)))
+        (subst (λ (x : Cartridge). InTime (x .mapper)) (sym (t .is))
+        (timing.woken-in-time (k .cart .mapper) _ wall (t .load .early (t .block))))
     go loaded.RamOnly e = w
     go (loaded.Refuse r) e = w
 

@@ -43,7 +43,7 @@ use Rattle.mount.specs.declared.Mounted.{Mounted}
 use Rattle.mount.specs.declared.Mounted.the-variants as mounted
 use Rattle.access.specs.Verdict.{inRom, noes, verdictOf}
 use Rattle.access.specs.declared.Verdict.the-variants.{Rom, Ram, Refuse}
-use Rattle.bus.specs.Bus.{readVerdict, writeVerdict, readBy, readOf, writeBy, writeOf, areaAfter}
+use Rattle.bus.specs.Bus.{readVerdict, writeVerdict, readBy, readOf, writeBy, writeOf}
 use Rattle.bus.specs.Advance.{advanceOf}
 use Rattle.bus.specs.Run.{Access, Machine, stepOf, runOf, Ready}
 use Rattle.bus.specs.Run as run
@@ -205,7 +205,7 @@ stays-ready = sequence.run-ready
 pub loaded-is-ready : (rom : List ℕ) (m : Machine) (d : Cartridge) (bytes : List ℕ) (wall : ℕ) → Ready rom m
     → loadOf (m .cart) (length (m .area)) bytes wall ≡ loaded.Whole d
     → Ready rom (record { cart = d; area = load.areaAfter (m .cart) (m .area) bytes wall })
-loaded-is-ready = saves.load-ready
+loaded-is-ready = saves.whole-ready
 
 -- no access is answered with either, and a save and a load have only their later tests left.
 pub never-13-nor-14 : (rom : List ℕ) (m : Machine) (as′ : List Access) → Ready rom m → Octets as′

@@ -21,6 +21,7 @@ use Rattle.save_file.specs.Load.{loadOf, areaAfter}
 use Rattle.save_file.specs.declared.Saved.the-variants as saved
 use Rattle.save_file.specs.declared.Loaded.the-variants.{Whole}
 use Rattle.runs.specs.Saves.{Kept, Back}
+use Rattle.runs.specs.Game.{Accepted}
 use Rattle.runs.proofs.SaveLaws as laws
 use Rattle.promises.specs.WaysBack.{Shows, behind, later}
 
@@ -38,7 +39,7 @@ way-back = laws.way-back
 
 -- the RAM area comes back at any wall time, with a timer or without one.
 pub ram-comes-back : (m : Mapper) (d : Cartridge) (ram area rest : List ℕ) (wall later : ℕ) → length area ≡ length ram
-    → laws.refused (loadOf d (length area) (bytesOf m ram wall ++ rest) later) ≡ false
+    → Accepted (loadOf d (length area) (bytesOf m ram wall ++ rest) later)
     → areaAfter d area (bytesOf m ram wall ++ rest) later ≡ ram
 ram-comes-back = laws.ram-back
 
@@ -66,7 +67,7 @@ again-only-where = laws.again-only
 
 -- without a timer always, at any wall time.
 pub again-without-timer : (c : Cartridge) (ram save : List ℕ) (wall later : ℕ) → hasClock (clockIn (c .mapper)) ≡ false
-    → laws.refused (loadOf c (length ram) save wall) ≡ false
+    → Accepted (loadOf c (length ram) save wall)
     → bytesOf (c .mapper) (areaAfter c ram save wall) later ≡ take (length ram) save
 again-without-timer = laws.again-ram
 

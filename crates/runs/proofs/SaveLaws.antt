@@ -1,13 +1,13 @@
 -- Accepted loads, taken apart; what they leave fit; and what comes back. Assumes nothing.
 use mathlib.Core.Bool.{Bool, true, false, not}
 use mathlib.Core.List.{List, _++_, append-assoc, append-nil}
-use mathlib.Core.Path.{_≡_, refl, sym, ap, _∙_}
+use mathlib.Core.Path.{_≡_, refl, sym, ap, _∙_, subst}
 use Prim.Native.Nat.{ℕ, _+_, _^_, _<_, _≤_}
 use native.Mathlib.Omega.{arith}
 use lib.Dec.{eqb, ltb}
 use lib.ListN.{length, getD, take, drop, length-append, length-drop, take-append-drop}
 use lib.Seq.{take-at, drop-at, take-add, length-take-le}
-use borrow.Author.Tests.{eq-eqb, le-ltb, le-leb, leb-true, ltb-false}
+use borrow.Author.Tests.{eq-eqb, eqb-true, le-ltb, le-leb, leb-true, ltb-false}
 use Rattle.facts.specs.Choice.{pick}
 use Rattle.facts.specs.Refusals.{no, firstNo, anyNo}
 use Rattle.facts.proofs.ChoiceLaws.{false≢true, both-true, both-left, both-right, not-false}
@@ -44,62 +44,83 @@ use Rattle.save_file.proofs.Laws.{only-held}
 use Rattle.bus.specs.Run.{Machine, Ready}
 use Rattle.runs.specs.Time.{SameTime}
 use Rattle.runs.specs.Saves.{Kept, Back}
+use Rattle.runs.specs.Game.{Accepted, cartBy, answerTo, loadedMachine}
 use Rattle.runs.proofs.MapperLaws as kept
 use Rattle.runs.proofs.BusLaws.{fit-with}
 
--- ---- an accepted load
+-- ---- a load that is not refused
 
-abbrev isWhole : Loaded → Bool
-isWhole (Whole c) = true
-isWhole RamOnly = false
-isWhole (Refuse w) = false
+-- as a test
+abbrev accepts : Loaded → Bool
+accepts (Whole c) = true
+accepts RamOnly = true
+accepts (Refuse w) = false
 
--- what it relied on, and what came of the cartridge
-pub record TakenLoad (c d : Cartridge) (area : ℕ) (save : List ℕ) (wall : ℕ) : Type 0 where
+accepts-if : (x : Loaded) → Accepted x → accepts x ≡ true
+accepts-if (Whole c) h = refl
+accepts-if RamOnly h = refl
+accepts-if (Refuse w) h = absurd (h w refl)
+
+accepts-only : {x : Loaded} → accepts x ≡ true → Accepted x
+accepts-only e w p = false≢true (sym (ap accepts p) ∙ e)
+
+-- what it relied on, and what it answers
+pub record TakenLoad (c : Cartridge) (area : ℕ) (save : List ℕ) (wall : ℕ) : Type 0 where
   pub fit : fitCart c ≡ true
-  pub lent : eqb area (areaOf c) ≡ true
-  pub long : ltb (length save) area ≡ false
+  pub lent : area ≡ areaOf c
+  pub battery : c .battery ≡ true
+  pub long : area ≤ length save
+  pub registers : hasBlock (c .mapper) (drop area save) ≡ true → fitRegisters (takenOf (blockIn (drop area save))) ≡ true
+  pub early : hasBlock (c .mapper) (drop area save) ≡ true → late (blockIn (drop area save)) wall ≡ false
+  pub is : loadOf c area save wall ≡ acceptedOf c (drop area save) wall
+
+-- and of a whole one, what came of the cartridge
+pub record TakenWhole (c d : Cartridge) (area : ℕ) (save : List ℕ) (wall : ℕ) : Type 0 where
+  pub load : TakenLoad c area save wall
   pub block : hasBlock (c .mapper) (drop area save) ≡ true
-  pub registers : fitRegisters (takenOf (blockIn (drop area save))) ≡ true
-  pub early : late (blockIn (drop area save)) wall ≡ false
   pub is : d ≡ withMapper c (withClock (c .mapper) (wokenOf (blockIn (drop area save)) wall))
 
 module _ (c : Cartridge) (area : ℕ) (save : List ℕ) (wall : ℕ) where
   abbrev read : Block
   read = blockIn (drop area save)
 
+  pub load-taken : Accepted (loadOf c area save wall) → TakenLoad c area save wall
+  unfolding loadOf loadNoes admitNoes blockNoes
+  load-taken h =
+      let tests = loadNoes c area save wall in
+      let a = acceptedOf c (drop area save) wall in
+      let none = none-if accepts Refuse (λ w. refl) tests a (accepts-if (loadOf c area save wall) h) in
+      let clear : (i : ℕ) → getD tests i (no false Unfit) .holds ≡ false = λ i. none-at tests i (no false Unfit) refl none in
+      record {
+        fit = not-false (fitCart c) (clear 0);
+        lent = eqb-true _ _ (not-false (eqb area (areaOf c)) (clear 1));
+        battery = not-false (c .battery) (clear 2);
+        long = ltb-false (length save) area (clear 3);
+        registers = λ t. not-false (fitRegisters (takenOf read)) (only-held t (clear 4));
+        early = λ t. only-held t (clear 5);
+        is = none-accepts Refuse a tests none;
+      }
+
   -- the answer of an accepted load, by whether there is a block
   abbrev answerBy : Bool → Loaded
   answerBy t = pick t (Whole (withMapper c (withClock (c .mapper) (wokenOf read wall)))) RamOnly
 
-  answer-by : {t : Bool} → hasBlock (c .mapper) (drop area save) ≡ t → acceptedOf c (drop area save) wall ≡ answerBy t
+  pub answer-by : {t : Bool} → hasBlock (c .mapper) (drop area save) ≡ t → acceptedOf c (drop area save) wall ≡ answerBy t
   unfolding acceptedOf
   answer-by e = ap answerBy e
 
-  pub load-taken : (d : Cartridge) → loadOf c area save wall ≡ Whole d → TakenLoad c d area save wall
-  unfolding loadOf loadNoes admitNoes blockNoes
-  load-taken d e =
-      let tests = loadNoes c area save wall in
-      let none = none-if isWhole Refuse (λ w. refl) tests (acceptedOf c (drop area save) wall) (ap isWhole e) in
-      let taken = sym (none-accepts Refuse (acceptedOf c (drop area save) wall) tests none) ∙ e in
-      go (λ i. none-at tests i (no false Unfit) refl none) (hasBlock (c .mapper) (drop area save)) refl (sym (answer-by refl) ∙ taken)
+  pub whole-taken : (d : Cartridge) → loadOf c area save wall ≡ Whole d → TakenWhole c d area save wall
+  whole-taken d e = go (hasBlock (c .mapper) (drop area save)) refl
     where
-      go : ((i : ℕ) → getD (loadNoes c area save wall) i (no false Unfit) .holds ≡ false)
-          → (t : Bool) → hasBlock (c .mapper) (drop area save) ≡ t → answerBy t ≡ Whole d → TakenLoad c d area save wall
-      go clear true h q =
-          record {
-            fit = not-false (fitCart c) (clear 0);
-            lent = not-false (eqb area (areaOf c)) (clear 1);
-            long = clear 3;
-            block = h;
-            registers = not-false (fitRegisters (takenOf read)) (only-held h (clear 4));
-            early = only-held h (clear 5);
-            is = cc;
-          }
-      go clear false h q = let z : _≡_ {A = ℕ} 0 1 = cc in absurd (omega arith)
+      load : TakenLoad c area save wall
+      load = load-taken (accepts-only (ap accepts e))
+
+      go : (t : Bool) → hasBlock (c .mapper) (drop area save) ≡ t → TakenWhole c d area save wall
+      go true h = let q = sym (load .is ∙ answer-by h) ∙ e in record { load = load; block = h; is = cc }
+      go false h = let q = sym (load .is ∙ answer-by h) ∙ e in let z : _≡_ {A = ℕ} 0 1 = cc in absurd (omega arith)
 
   -- and put together
-  pub load-accepts : fitCart c ≡ true → eqb area (areaOf c) ≡ true → c .battery ≡ true → ltb (length save) area ≡ false
+  load-accepts : fitCart c ≡ true → eqb area (areaOf c) ≡ true → c .battery ≡ true → ltb (length save) area ≡ false
       → hasBlock (c .mapper) (drop area save) ≡ true → beyond read ≡ false → late read wall ≡ false
       → loadOf c area save wall ≡ answerBy true
   unfolding loadOf loadNoes admitNoes blockNoes
@@ -111,16 +132,16 @@ module _ (c : Cartridge) (area : ℕ) (save : List ℕ) (wall : ℕ) where
 
 pub load-fit : (c d : Cartridge) (area : ℕ) (save : List ℕ) (wall : ℕ) → loadOf c area save wall ≡ Whole d → fitCart d ≡ true
 load-fit c d area save wall e =
-    let t = load-taken c area save wall d e in
+    let t = whole-taken c area save wall d e in
     let woken = wokenOf (blockIn (drop area save)) wall in
     ap fitCart (t .is)
-    ∙ fit-with c (withClock (c .mapper) woken) (t .fit) (kept.with-clock-same (c .mapper) woken)
-    (kept.with-clock-fit (c .mapper) woken (woken-fit (blockIn (drop area save)) wall (t .registers)))
+    ∙ fit-with c (withClock (c .mapper) woken) (t .load .fit) (kept.with-clock-same (c .mapper) woken)
+    (kept.with-clock-fit (c .mapper) woken (woken-fit (blockIn (drop area save)) wall (t .load .registers (t .block))))
 
 pub load-area-stays : (c d : Cartridge) (area : ℕ) (save : List ℕ) (wall : ℕ) → loadOf c area save wall ≡ Whole d
     → areaOf d ≡ areaOf c
 load-area-stays c d area save wall e =
-    let t = load-taken c area save wall d e in
+    let t = whole-taken c area save wall d e in
     ap areaOf (t .is) ∙ kept.with-clock-same (c .mapper) (wokenOf (blockIn (drop area save)) wall) .area (c .size)
 
 -- ---- the way back
@@ -197,31 +218,21 @@ woken-early b wall h = omega arith
 
 -- ---- the RAM area
 
-abbrev pub refused : Loaded → Bool
-refused (Whole c) = false
-refused RamOnly = false
-refused (Refuse w) = true
-
-pub load-area : (c : Cartridge) (ram save : List ℕ) (wall : ℕ) → refused (loadOf c (length ram) save wall) ≡ false
+pub load-area : (c : Cartridge) (ram save : List ℕ) (wall : ℕ) → Accepted (loadOf c (length ram) save wall)
     → areaAfter c ram save wall ≡ take (length ram) save
 unfolding areaAfter
-load-area c ram save wall e = go (loadOf c (length ram) save wall) e
+load-area c ram save wall h = go (loadOf c (length ram) save wall) h
   where
-    go : (x : Loaded) → refused x ≡ false → areaBy ram save x ≡ take (length ram) save
-    go (Whole d) p = refl
-    go RamOnly p = refl
-    go (Refuse w) p = false≢true (sym p)
-
-pub whole-area : (c d : Cartridge) (ram save : List ℕ) (wall : ℕ) → loadOf c (length ram) save wall ≡ Whole d
-    → areaAfter c ram save wall ≡ take (length ram) save
-whole-area c d ram save wall e = load-area c ram save wall (ap refused e)
+    go : (x : Loaded) → Accepted x → areaBy ram save x ≡ take (length ram) save
+    go (Whole d) a = refl
+    go RamOnly a = refl
+    go (Refuse w) a = absurd (a w refl)
 
 pub ram-back : (m : Mapper) (d : Cartridge) (ram area rest : List ℕ) (wall later : ℕ) → length area ≡ length ram
-    → refused (loadOf d (length area) (bytesOf m ram wall ++ rest) later) ≡ false
-    → areaAfter d area (bytesOf m ram wall ++ rest) later ≡ ram
+    → Accepted (loadOf d (length area) (bytesOf m ram wall ++ rest) later) → areaAfter d area (bytesOf m ram wall ++ rest) later ≡ ram
 unfolding bytesOf
-ram-back m d ram area rest wall later n e =
-    load-area d area (bytesOf m ram wall ++ rest) later e
+ram-back m d ram area rest wall later n h =
+    load-area d area (bytesOf m ram wall ++ rest) later h
     ∙ ap (take (length area)) (append-assoc ram (batteryBytes (clockIn m) wall) rest)
     ∙ take-at ram (batteryBytes (clockIn m) wall ++ rest) (length area) (sym n)
 
@@ -231,8 +242,8 @@ module _ (c d : Cartridge) (ram save : List ℕ) (wall : ℕ) (e : loadOf c (len
   abbrev stands : List ℕ
   stands = drop (length ram) save
 
-  taken : TakenLoad c d (length ram) save wall
-  taken = load-taken c (length ram) save wall d e
+  taken : TakenWhole c d (length ram) save wall
+  taken = whole-taken c (length ram) save wall d e
 
   block-long : 21 ≤ length stands
   block-long = leb-true 21 (length stands) (both-right (hasClock (clockIn (c .mapper))) _ (taken .block))
@@ -244,7 +255,7 @@ module _ (c d : Cartridge) (ram save : List ℕ) (wall : ℕ) (e : loadOf c (len
   written =
       let has = both-left (hasClock (clockIn (c .mapper))) _ (taken .block) in
       let clock = ap (λ (x : Cartridge). clockIn (x .mapper)) (taken .is) ∙ kept.clock-with (c .mapper) (wokenOf (blockIn stands) wall) has in
-      ap (λ (x : List ℕ). x ++ batteryBytes (clockIn (d .mapper)) wall) (whole-area c d ram save wall e)
+      ap (λ (x : List ℕ). x ++ batteryBytes (clockIn (d .mapper)) wall) (load-area c ram save wall (accepts-only (ap accepts e)))
       ∙ ap (λ (t : Timer). take (length ram) save ++ batteryBytes t wall) clock
 
   pub again-if : Octets save → blockIn stands .time ≡ timeOf (blockIn stands) wall
@@ -260,9 +271,9 @@ module _ (c d : Cartridge) (ram save : List ℕ) (wall : ℕ) (e : loadOf c (len
   again-only same =
       let b = blockOf (wokenOf (blockIn stands) wall) wall in
       let n : length (take (length ram) save) ≡ length ram =
-      length-take-le (length ram) save (ltb-false (length save) (length ram) (taken .long)) in
-      let early = ltb-false 18446744073709551615 (timeOf (blockIn stands) wall) (taken .early) in
-      let fits = woken-fit (blockIn stands) wall (taken .registers) in
+      length-take-le (length ram) save (taken .load .long) in
+      let early = ltb-false 18446744073709551615 (timeOf (blockIn stands) wall) (taken .load .early (taken .block)) in
+      let fits = woken-fit (blockIn stands) wall (taken .load .registers (taken .block)) in
       let bytes : blockBytes b ≡ take 21 stands =
       sym (drop-at (take (length ram) save) (blockBytes b) (length ram) n)
       ∙ ap (drop (length ram)) (sym written ∙ same ∙ take-add (length ram) 21 save)
@@ -274,30 +285,47 @@ module _ (c d : Cartridge) (ram save : List ℕ) (wall : ℕ) (e : loadOf c (len
 
 -- without a timer only the RAM is kept
 pub again-ram : (c : Cartridge) (ram save : List ℕ) (wall later : ℕ) → hasClock (clockIn (c .mapper)) ≡ false
-    → refused (loadOf c (length ram) save wall) ≡ false → bytesOf (c .mapper) (areaAfter c ram save wall) later ≡ take (length ram) save
+    → Accepted (loadOf c (length ram) save wall) → bytesOf (c .mapper) (areaAfter c ram save wall) later ≡ take (length ram) save
 unfolding bytesOf
-again-ram c ram save wall later h e =
-    ap (λ (x : List ℕ). x ++ batteryBytes (clockIn (c .mapper)) later) (load-area c ram save wall e)
+again-ram c ram save wall later h acc =
+    ap (λ (x : List ℕ). x ++ batteryBytes (clockIn (c .mapper)) later) (load-area c ram save wall acc)
     ∙ none (clockIn (c .mapper)) h
   where
     none : (t : Timer) → hasClock t ≡ false → take (length ram) save ++ batteryBytes t later ≡ take (length ram) save
     none (timer.Clock k) p = false≢true (sym p)
     none timer.Nothing p = append-nil (take (length ram) save)
 
--- ---- the bus goes on
+-- ---- the bus goes on, whatever the answer is
 
-pub load-ready : (rom : List ℕ) (m : Machine) (d : Cartridge) (save : List ℕ) (wall : ℕ) → Ready rom m
+pub load-ready : {rom : List ℕ} {m : Machine} (save : List ℕ) (wall : ℕ) → Ready rom m → Ready rom (loadedMachine m save wall)
+unfolding areaAfter
+load-ready {rom} {m} save wall r = go (answerTo m save wall) refl
+  where
+    c : Cartridge
+    c = m .cart
+
+    n : ℕ
+    n = length (m .area)
+
+    go : (x : Loaded) → answerTo m save wall ≡ x → Ready rom (record { cart = cartBy c x; area = areaBy (m .area) save x })
+    go (Whole d) e =
+        let t = whole-taken c n save wall d e in
+        record {
+          fit = load-fit c d n save wall e;
+          image = r .image ∙ sym (ap (λ (x : Cartridge). x .length) (t .is));
+          area = length-take-le n save (t .load .long) ∙ r .area ∙ sym (load-area-stays c d n save wall e);
+        }
+    go RamOnly e =
+        let t = load-taken c n save wall (accepts-only (ap accepts e)) in
+        record { fit = r .fit; image = r .image; area = length-take-le n save (t .long) ∙ r .area }
+    go (Refuse w) e = r
+
+pub whole-ready : (rom : List ℕ) (m : Machine) (d : Cartridge) (save : List ℕ) (wall : ℕ) → Ready rom m
     → loadOf (m .cart) (length (m .area)) save wall ≡ Whole d
     → Ready rom (record { cart = d; area = areaAfter (m .cart) (m .area) save wall })
-load-ready rom m d save wall ready e =
-    let t = load-taken (m .cart) (length (m .area)) save wall d e in
-    record {
-      fit = load-fit (m .cart) d (length (m .area)) save wall e;
-      image = ready .image ∙ sym (ap (λ (x : Cartridge). x .length) (t .is));
-      area = ap length (whole-area (m .cart) d (m .area) save wall e)
-          ∙ length-take-le (length (m .area)) save (ltb-false (length save) (length (m .area)) (t .long))
-          ∙ ready .area ∙ sym (load-area-stays (m .cart) d (length (m .area)) save wall e);
-    }
+whole-ready rom m d save wall r e =
+    subst (λ (x : Loaded). Ready rom (record { cart = cartBy (m .cart) x; area = areaAfter (m .cart) (m .area) save wall })) e
+    (load-ready save wall r)
 
 -- ---- a fit cartridge lent its own area is not refused with 13 or 14
 
