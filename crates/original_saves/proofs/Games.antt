@@ -34,7 +34,7 @@ use Rattle.refused.specs.Kept.{keptAnswers}
 use Rattle.original_saves.specs.SramFile.{loadSramFile, readInto, saveSramFile}
 use Rattle.original_saves.specs.Written.{WritesSame}
 use Rattle.original_saves.specs.ReadIn.{Harmless, CutBlock, Prompt}
-use Rattle.original_saves.specs.Game.{ClockHolds, NothingDue, Unseen, CutHarmless, ClockBegins, given, pastOf, GameAgrees}
+use Rattle.original_saves.specs.Agrees.{ClockHolds, NothingDue, Unseen, CutHarmless, ClockBegins, given, pastOf, GameAgrees}
 use Rattle.original_saves.proofs.WrittenLaws.{writes-same, due-parts}
 use Rattle.original_saves.proofs.ReadInLaws.{not-read, mountedRust, with-read, battery-is, reads-beside}
 use Rattle.original_saves.proofs.GameLaws.{game, left-ready}

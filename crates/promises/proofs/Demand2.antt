@@ -67,7 +67,7 @@ use Rattle.refused.proofs.Refused as refused
 use Rattle.original_saves.specs.SramFile.{fromFileWith}
 use Rattle.original_saves.specs.Written.{WritesSame}
 use Rattle.original_saves.specs.ReadIn.{CutInTime}
-use Rattle.original_saves.specs.Game.{given, ClockHolds, NothingDue, Unseen, CutHarmless, GameAgrees}
+use Rattle.original_saves.specs.Agrees.{given, ClockHolds, NothingDue, Unseen, CutHarmless, GameAgrees}
 use Rattle.original_saves.proofs.StopLaws as stop
 use Rattle.original_saves.proofs.Games as games
 use Rattle.player.specs.Header.{factsAfter}
