@@ -26,25 +26,20 @@ use Rattle.runs.specs.Calls as calls
 use Rattle.runs.proofs.RunLaws.{mount-ready}
 use Rattle.runs.proofs.SaveLaws.{load-ready}
 use Rattle.original.specs.Machine.{ok, u64}
-use Rattle.original.specs.Cartridge.{Cartridge, taken}
+use Rattle.original.specs.Cartridge.{Cartridge}
 use Rattle.original.specs.Step.{originalRun}
 use Rattle.original.proofs.StartLaws.{start-same}
 use Rattle.board.proofs.Board.{same-beside, all-held}
 use Rattle.refused.specs.Kept.{keptAnswers}
-use Rattle.original_saves.specs.SramFile.{loadSramFile, readInto, saveSramFile}
+use Rattle.original_saves.specs.SramFile.{saveSramFile}
 use Rattle.original_saves.specs.Written.{WritesSame}
 use Rattle.original_saves.specs.ReadIn.{Harmless, CutBlock, Prompt}
 use Rattle.original_saves.specs.Agrees.{ClockHolds, NothingDue, Unseen, CutHarmless, ClockBegins, given, pastOf, GameAgrees}
 use Rattle.original_saves.proofs.WrittenLaws.{writes-same, due-parts}
-use Rattle.original_saves.proofs.ReadInLaws.{not-read, mountedRust, with-read, battery-is, reads-beside}
+use Rattle.original_saves.proofs.ReadInLaws.{no-file, mountedRust, with-read, battery-is, reads-beside}
 use Rattle.original_saves.proofs.GameLaws.{game, left-ready}
 
 -- ---- 1. the game
-
--- a file that can't be opened is none
-no-file : (o : Cartridge) → readInto none (taken o) ≡ ok (taken o)
-unfolding loadSramFile
-no-file o = not-read none o refl
 
 game-ready : (g : Game) (file : Option (List ℕ)) → Ready (g .image) (begins g file)
 game-ready g none = mount-ready (g .image) (g .area) (g .wall) (g .cart) (g .mounts)
