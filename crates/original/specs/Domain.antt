@@ -1,6 +1,6 @@
 -- The domain inside which the Rust is the oracle, a premise on a sequence of accesses over our own run of it (document 01,
 -- "The clock", last paragraph, and "The bus", demand 2's domain). Each clause stands under the words that it says. No access
--- makes a save or reads one: "no save has been read" is a clause on a game (`original_saves` `Unread`).
+-- makes a save or reads one: "no save has been read" is a clause on a game (`original_saves` `Agrees.Unread`).
 use mathlib.Core.Bool.{Bool, true, not}
 use mathlib.Core.List.{List, [], _∷_}
 use mathlib.Core.Path.{_≡_}
