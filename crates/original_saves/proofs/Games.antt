@@ -32,10 +32,10 @@ use Rattle.original.proofs.StartLaws.{start-same}
 use Rattle.board.proofs.Board.{same-beside, all-held}
 use Rattle.refused.specs.Kept.{keptAnswers}
 use Rattle.original_saves.specs.SramFile.{saveSramFile}
-use Rattle.original_saves.specs.Written.{WritesSame}
+use Rattle.original_saves.specs.Written.{WritesRam, BlockOurs}
 use Rattle.original_saves.specs.ReadIn.{Harmless, CutBlock, Prompt}
 use Rattle.original_saves.specs.Agrees.{ClockHolds, NothingDue, Unseen, CutHarmless, ClockBegins, given, pastOf, GameAgrees}
-use Rattle.original_saves.proofs.WrittenLaws.{writes-same, due-parts}
+use Rattle.original_saves.proofs.WrittenLaws.{writes-same, due-parts, whole-file, block-alone}
 use Rattle.original_saves.proofs.ReadInLaws.{no-file, mountedRust, with-read, battery-is, reads-beside}
 use Rattle.original_saves.proofs.GameLaws.{game, left-ready}
 
@@ -73,15 +73,15 @@ inside-agrees {g} {file} {accesses} {xs} a h =
 
 -- ---- 2. the save that is then written
 
--- Inside the clock's domain every byte of it is ours exactly where "an unlatched clock read follows each completed second before the ..
--- save": with a second due no save is.
-pub save-is-ours : {g : Game} {file : Option (List ℕ)} → Readable g file → {accesses : List Access} → calls.Octets accesses
+-- Inside the clock's domain every byte of the block is ours exactly where "an unlatched clock read follows each completed second before
+-- the .. save": with a second due none is.
+pub save-is-ours : {g : Game} {file : Option (List ℕ)} {accesses : List Access} → calls.Octets accesses
     → {xs : List Answer} {n : Machine} → Calls (g .image) (begins g file) accesses xs n → (a : GameAgrees g file accesses xs n)
-    → ClockHolds g file accesses → (now : ℕ) → NothingDue g file accesses n ↔ WritesSame n (a .left) now
-save-is-ours {g} {file} r {accesses} b made a h now =
+    → ClockHolds g file accesses → (now : ℕ) → NothingDue g file accesses n ↔ BlockOurs n now (a .writes now .behind)
+save-is-ours {g} {file} {accesses} b {n = n} made a h now =
     let ready = left-ready g file (game-ready g file) accesses b made in (
-      (λ due. writes-same ready (a .same h) due now),
-      (λ w t. none-due _ (λ n. due-parts ready (a .same h) t n now w)),
+      (λ due. block-alone n (a .left) now (a .writes now) (writes-same ready (a .same h) due now)),
+      (λ w t. none-due _ (λ z. due-parts ready (a .same h) t z now (whole-file n (a .left) now (a .writes now) w))),
     )
   where
     none-due : (k : ℕ) → ((k ≡ 0 → ⊥) → ⊥) → k ≡ 0
@@ -102,13 +102,13 @@ wrote-all c ram room now k e =
     let is = sym (none-accepts Refuse a (saveNoes c ram room now) none) ∙ e in
     cc
 
-pub room-is-file : (m : Machine) (o : Cartridge) (now : ℕ) → WritesSame m o now → (room : List ℕ) (k : ℕ)
+pub room-is-file : (m : Machine) (o : Cartridge) (now : ℕ) (w : WritesRam m o now) → BlockOurs m now (w .behind) → (room : List ℕ) (k : ℕ)
     → saveOf (m .cart) (m .area) (length room) now ≡ Wrote k
     → saveSramFile o now ≡ ok (take k (roomAfter (m .cart) (m .area) room now))
 unfolding roomAfter
-room-is-file m o now w room k e =
+room-is-file m o now w same room k e =
     let b = bytesOf (m .cart .mapper) (m .area) now in
-    w
+    whole-file m o now w same
     ∙ ap ok
     (sym
     (ap (λ (x : Saved). take k (roomBy b room x)) e

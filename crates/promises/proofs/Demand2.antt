@@ -2,6 +2,9 @@
 -- accesses in 01's domain, proved against definitions." First what the definitions say, then that the Rust, written down as
 -- definitions in `original`, answers alike. The theorems speak of `checkOf`, `mountOf`, `runOf` and what is below them: the contracts
 -- say that the code's answers, and every byte of the lent RAM area, equal these on all inputs. Assumes nothing.
+use Rattle.clock.specs.declared.Clock.{Clock}
+use Rattle.save_file.specs.declared.Saved.the-variants.{Wrote}
+use Rattle.save_file.specs.Save.{saveOf, roomAfter}
 use mathlib.Core.Bool.{Bool, true, false}
 use mathlib.Core.List.{List}
 use mathlib.Core.Logic.{_↔_}
@@ -29,7 +32,7 @@ use Rattle.header.proofs.LocalLaws.{same-verdict}
 use Rattle.banking.specs.Banks.{orOne}
 use Rattle.mbc1.specs.Registers as mbc1
 use Rattle.clock_block.specs.Layout.{blockIn}
-use Rattle.clock_block.specs.Waking.{late}
+use Rattle.clock_block.specs.Waking.{late, blockOf}
 use Rattle.battery.specs.Battery.{clockIn, hasClock}
 use Rattle.cartridge.specs.Fit.{InTime}
 use Rattle.cartridge.specs.declared.Cartridge.{Cartridge}
@@ -48,7 +51,7 @@ use Rattle.runs.specs.Calls as calls
 use Rattle.runs.proofs.ImageLaws as image
 use Rattle.runs.proofs.BusLaws as laws
 use Rattle.runs.proofs.RunLaws as sequence
-use Rattle.original.specs.Machine.{ok, panic}
+use Rattle.original.specs.Machine.{ok, panic, u64}
 use Rattle.original.specs.Cartridge as rust
 use Rattle.original.specs.Cartridge.{CartridgeError, taken, error, fromFile}
 use Rattle.original.specs.Same.{Same}
@@ -64,9 +67,9 @@ use Rattle.refused.specs.Served.{Unserved}
 use Rattle.refused.specs.Beyond.{BeyondGives}
 use Rattle.refused.specs.Kept.{keptAnswers}
 use Rattle.refused.proofs.Refused as refused
-use Rattle.original_saves.specs.SramFile.{fromFileWith}
-use Rattle.original_saves.specs.Written.{WritesSame}
-use Rattle.original_saves.specs.ReadIn.{CutInTime}
+use Rattle.original_saves.specs.SramFile.{fromFileWith, saveSramFile}
+use Rattle.original_saves.specs.Written.{WritesRam, BlockOurs}
+use Rattle.original_saves.specs.ReadIn.{CutInTime, CutBlock, Prompt}
 use Rattle.original_saves.specs.Agrees.{given, ClockHolds, NothingDue, Unseen, CutHarmless, GameAgrees}
 use Rattle.original_saves.proofs.StopLaws as stop
 use Rattle.original_saves.proofs.Games as games
@@ -208,11 +211,16 @@ pub inside-agrees : {g : Game} {file : Option (List ℕ)} {accesses : List Acces
     → originalRun (a .start) (given g file accesses) ≡ ok (record { answers = keptAnswers xs; left = a .left })
 inside-agrees = games.inside-agrees
 
--- and every byte of the save exactly where no second is due.
-pub save-is-ours : {g : Game} {file : Option (List ℕ)} → Readable g file → {accesses : List Access} → calls.Octets accesses
+-- and every byte of the 21 behind the RAM exactly where no second is due;
+pub save-is-ours : {g : Game} {file : Option (List ℕ)} {accesses : List Access} → calls.Octets accesses
     → {xs : List Answer} {n : Machine} → Calls (g .image) (begins g file) accesses xs n → (a : GameAgrees g file accesses xs n)
-    → ClockHolds g file accesses → (now : ℕ) → NothingDue g file accesses n ↔ WritesSame n (a .left) now
+    → ClockHolds g file accesses → (now : ℕ) → NothingDue g file accesses n ↔ BlockOurs n now (a .writes now .behind)
 save-is-ours = games.save-is-ours
+
+-- the room of our own call then begins with the Rust's file.
+pub room-is-file : (m : Machine) (o : rust.Cartridge) (now : ℕ) (w : WritesRam m o now) → BlockOurs m now (w .behind) → (room : List ℕ) (k : ℕ)
+    → saveOf (m .cart) (m .area) (length room) now ≡ Wrote k → saveSramFile o now ≡ ok (take k (roomAfter (m .cart) (m .area) room now))
+room-is-file = games.room-is-file
 
 -- The same from any point of a game on, where the Rust's state stands beside ours.
 pub run-agrees : {image : List ℕ} {past : Since} {m : Machine} {o : rust.Cartridge} {held : Type 0} → Ready image m
@@ -226,6 +234,15 @@ pub rust-reads-our-save : (g : Game) (save : List ℕ) → bytes.Octets save →
     → (o : rust.Cartridge) × (fromFileWith (g .image) (g .wall) (some save) ≡ ok (taken o))
     × (o .ram ≡ take (g .cart .size) (begins g (some save) .area))
 rust-reads-our-save = stop.accepted-ram-read
+
+-- The premise of 6 on such a block holds where no byte stands behind the RAM area,
+pub no-block-is-harmless : (m : Machine) (save : List ℕ) (wall : ℕ) → wall < u64 → length save ≤ length (m .area) → CutBlock m save wall
+no-block-is-harmless = games.no-block-harmless
+
+-- and the one on the clock of a save that was read holds of what we save, by 01's way back, but for minute 60 and hour 24.
+pub way-back-goes-on : (k : Clock) (wall : ℕ) → wall ≤ k .time → (k .running .minute ≡ 60 → ⊥) → (k .running .hour ≡ 24 → ⊥)
+    → Prompt (blockOf k wall) wall
+way-back-goes-on = games.way-back-prompt
 
 -- Of those that we don't accept it reads none without a battery (18),
 pub rust-reads-no-save-without-battery : (g : Game) → g .cart .battery ≡ false → (file : Option (List ℕ))
