@@ -7,7 +7,7 @@ use Rattle.save_file.specs.declared.Saved.the-variants.{Wrote}
 use Rattle.save_file.specs.Save.{saveOf, roomAfter}
 use mathlib.Core.Bool.{Bool, true, false}
 use mathlib.Core.List.{List}
-use mathlib.Core.Logic.{_↔_}
+use mathlib.Core.Logic.{_↔_, _⊎_}
 use mathlib.Core.Option.{Option, some}
 use mathlib.Core.Path.{_≡_, refl, ap}
 use Prim.Native.Nat.{ℕ, _+_, _%_, _^_, _<_, _≤_}
@@ -53,8 +53,8 @@ use Rattle.runs.proofs.BusLaws as laws
 use Rattle.runs.proofs.RunLaws as sequence
 use Rattle.original.specs.Machine.{ok, panic, u64}
 use Rattle.original.specs.Cartridge as rust
-use Rattle.original.specs.Cartridge.{CartridgeError, taken, error, fromFile}
-use Rattle.original.specs.Same.{Same}
+use Rattle.original.specs.Cartridge.{CartridgeError, taken, error, fromFile, withRam}
+use Rattle.original.specs.Same.{Same, mbc2Of}
 use Rattle.original.specs.Domain.{Since}
 use Rattle.original.specs.Verdict.{numberOf, cartridgeOf, ImageInDomain}
 use Rattle.original.proofs.Original as original
@@ -67,11 +67,18 @@ use Rattle.refused.specs.Served.{Unserved}
 use Rattle.refused.specs.Beyond.{BeyondGives}
 use Rattle.refused.specs.Kept.{keptAnswers}
 use Rattle.refused.proofs.Refused as refused
-use Rattle.original_saves.specs.SramFile.{fromFileWith, saveSramFile}
+use Rattle.original_saves.specs.SramFile.{fromFileWith, saveSramFile, buffer}
 use Rattle.original_saves.specs.Written.{WritesRam, BlockOurs}
-use Rattle.original_saves.specs.ReadIn.{CutInTime, CutBlock, Prompt}
+use Rattle.original_saves.specs.ReadIn.{CutInTime, CutBlock, Prompt, ReadsRam}
 use Rattle.original_saves.specs.Agrees.{given, ClockHolds, NothingDue, Unseen, CutHarmless, GameAgrees}
 use Rattle.original_saves.proofs.StopLaws as stop
+use Rattle.original.specs.Mapper as original-mapper
+use Rattle.mapper.specs.declared.Mapper.the-variants as mapper
+use Rattle.mbc2.specs.declared.Mbc2.{Mbc2}
+use Rattle.clock_block.specs.declared.BlockRefusal.the-variants.{Late}
+use Rattle.save_file.specs.declared.SaveRefusal.the-variants.{NoBattery, ShortSave, Block}
+use Rattle.save_file.specs.declared.Loaded.the-variants as save-no
+use Rattle.original_saves.proofs.RefusedLaws as saves
 use Rattle.original_saves.proofs.Games as games
 use Rattle.player.specs.Header.{factsAfter}
 use Rattle.title_part.specs.Part.{TitlePart}
@@ -230,9 +237,7 @@ run-agrees = board.board-run
 
 -- 7. A save that we accept the Rust reads to our RAM, a block that is cut short with it, if that does not stop it.
 pub rust-reads-our-save : (g : Game) (save : List ℕ) → bytes.Octets save → Accepted (answerTo (mountedMachine g) save (g .wall))
-    → CutInTime (mountedMachine g) save (g .wall)
-    → (o : rust.Cartridge) × (fromFileWith (g .image) (g .wall) (some save) ≡ ok (taken o))
-    × (o .ram ≡ take (g .cart .size) (begins g (some save) .area))
+    → CutInTime (mountedMachine g) save (g .wall) → ReadsRam g save
 rust-reads-our-save = stop.accepted-ram-read
 
 -- The premise of 6 on such a block holds where no byte stands behind the RAM area,
@@ -244,23 +249,32 @@ pub way-back-goes-on : (k : Clock) (wall : ℕ) → wall ≤ k .time → (k .run
     → Prompt (blockOf k wall) wall
 way-back-goes-on = games.way-back-prompt
 
--- Of those that we don't accept it reads none without a battery (18),
-pub rust-reads-no-save-without-battery : (g : Game) → g .cart .battery ≡ false → (file : Option (List ℕ))
-    → fromFileWith (g .image) (g .wall) file ≡ fromFile (g .image) (g .wall)
-rust-reads-no-save-without-battery = stop.no-battery-unread
-
--- none that is shorter than the header's RAM (19),
-pub rust-reads-no-short-save : (g : Game) (save : List ℕ) → length save < g .cart .size
+-- Where we refuse one with 18 it reads none,
+pub rust-reads-none-at-18 : (g : Game) (save : List ℕ) → answerTo (mountedMachine g) save (g .wall) ≡ save-no.Refuse NoBattery
     → fromFileWith (g .image) (g .wall) (some save) ≡ fromFile (g .image) (g .wall)
-rust-reads-no-short-save = stop.short-save-unread
+rust-reads-none-at-18 = saves.rust-at-18
 
--- and panics where the time would pass 2^64 - 1 seconds (17).
-pub rust-panics-at-a-late-save : (g : Game) → g .cart .battery ≡ true → hasClock (clockIn (g .cart .mapper)) ≡ true → (save : List ℕ)
-    → g .cart .size ≤ length save → late (blockIn (drop (g .cart .size) save)) (g .wall) ≡ true
+-- with 19 none either, but for an MBC2's that has the header's RAM:
+pub rust-reads-none-at-19 : (g : Game) (save : List ℕ) → answerTo (mountedMachine g) save (g .wall) ≡ save-no.Refuse ShortSave
+    → (fromFileWith (g .image) (g .wall) (some save) ≡ fromFile (g .image) (g .wall))
+    ⊎ ((k : Mbc2) × (g .cart .mapper ≡ mapper.Mbc2 k) × (g .cart .battery ≡ true) × (g .cart .size ≤ length save))
+rust-reads-none-at-19 = saves.rust-at-19
+
+-- that one it takes, with zeros for the half-bytes that are missing;
+pub rust-fills-half-bytes : (g : Game) (save : List ℕ) (k : Mbc2) → g .cart .mapper ≡ mapper.Mbc2 k → g .cart .battery ≡ true
+    → g .cart .size ≤ length save
+    → (o : rust.Cartridge) × (fromFile (g .image) (g .wall) ≡ ok (taken o))
+    × (fromFileWith (g .image) (g .wall) (some save)
+    ≡ ok
+    (taken (withRam o (original-mapper.Mbc2 (mbc2Of (g .cart .banks) (buffer 512 (drop (g .cart .size) save)) k)) (take (g .cart .size) save))))
+rust-fills-half-bytes = saves.half-bytes-filled
+
+-- with 17 it panics,
+pub rust-panics-at-17-of-a-save : (g : Game) (save : List ℕ) → answerTo (mountedMachine g) save (g .wall) ≡ save-no.Refuse (Block Late)
     → fromFileWith (g .image) (g .wall) (some save) ≡ panic
-rust-panics-at-a-late-save = stop.late-save-stops
+rust-panics-at-17-of-a-save = saves.rust-at-17
 
--- Every other one of a cartridge with a timer it reads to the save's RAM, whatever stands behind it, with 20 too.
+-- and every other one of a cartridge with a timer, 20 too, it reads to the save's RAM.
 pub rust-reads-the-ram : (g : Game) → g .cart .battery ≡ true → hasClock (clockIn (g .cart .mapper)) ≡ true → (save : List ℕ)
     → g .cart .size ≤ length save → late (blockIn (drop (g .cart .size) save)) (g .wall) ≡ false
     → (o : rust.Cartridge) × (fromFileWith (g .image) (g .wall) (some save) ≡ ok (taken o)) × (o .ram ≡ take (g .cart .size) save)
