@@ -8,9 +8,9 @@ use lib.Bits.{bitAnd, and-mask}
 use lib.Dec.{leb}
 use borrow.Author.Tests.{le-leb, lt-leb}
 use Rattle.facts.specs.Choice.{both, either}
-use Rattle.facts.proofs.ChoiceLaws.{both-true, both-false}
+use Rattle.facts.proofs.ChoiceLaws.{both-true, both-false, not-false}
 use Rattle.clock.specs.Fit.{fitClock}
-use Rattle.mbc3.specs.Registers.{forRam, forClock, fitRegisters}
+use Rattle.mbc3.specs.Registers.{forRam, forClock, selectable, badSelection, fitRegisters}
 use Rattle.mbc3.specs.declared.Mbc3.{Mbc3}
 
 -- ---- the selection's nibble
@@ -32,6 +32,11 @@ below-clock byte h =
 pub above-clock : (byte : ℕ) → 13 ≤ bitAnd byte 15 → forClock byte ≡ false
 above-clock byte h =
     ap (both (leb 8 (byte % 16))) (lt-leb (byte % 16) 12 (omega (arith, and-mask byte 4))) ∙ both-false (leb 8 (byte % 16))
+
+-- what a write selects that 16 does not refuse
+pub good-selection : (addr byte : ℕ) → badSelection addr byte ≡ false → both (leb 0x4000 addr) (leb addr 0x5FFF) ≡ true
+    → selectable byte ≡ true
+good-selection addr byte e h = not-false (selectable byte) (ap (λ (t : Bool). both t (not (selectable byte))) (sym h) ∙ e)
 
 -- ---- fitness, as the code tests it: eight bits are at most 255
 

@@ -5,8 +5,8 @@ use mathlib.Core.Path.{_≡_, refl, sym, ap, _∙_}
 use Prim.Native.Nat.{ℕ, zero, suc, _+_, _-_, _<_, _≤_}
 use native.Mathlib.Nat.{add-zero, add-suc}
 use native.Mathlib.Omega.{arith}
-use lib.Dec.{eqb}
-use borrow.Author.Tests.{lt-ltb, eqb-false}
+use lib.Dec.{eqb, ltb}
+use borrow.Author.Tests.{lt-ltb, le-ltb, ltb-true, ltb-false, eqb-false}
 use Rattle.facts.specs.Choice.{pick, bit}
 use Rattle.facts.specs.Counter.{carries, step}
 use Rattle.clock_registers.specs.Seconds.{secondOn, secondsOn}
@@ -16,7 +16,7 @@ use Rattle.clock.specs.Ticking.{clocks, moving, tick, ticks}
 use Rattle.clock.specs.declared.Clock.{Clock}
 use Rattle.clock.proofs.TickLaws.{secondsIn, after, halted-ticks, moving-ticks, time-grows}
 use Rattle.clock.proofs.KeptLaws.{ticks-copy}
-use Rattle.original.specs.Machine.{Outcome, ok, bind, addIn, u32, u64}
+use Rattle.original.specs.Machine.{Outcome, ok, panic, bind, addIn, u32, u64}
 use Rattle.original.specs.Rtc.{RtcRegister, rtc, clockSecondPart}
 use Rattle.original.specs.Follows.{secondParts, Follows, Counts}
 use Rattle.original.proofs.FollowsLaws.{Done}
@@ -31,33 +31,45 @@ moved r sub now =
 abbrev pub counted : RtcRegister → Clock → RtcRegister
 counted r c = moved r (c .sub) (c .time)
 
--- where the RTC does not halt
-part-moves : (r : RtcRegister) (sub now : ℕ) → sub < 2097152 → now + bit (carries clocks sub) < u64
-    → bind (addIn u32 sub 1) (λ s. pick (eqb s 2097152) (bind (addIn u64 now 1) (λ n. ok (moved r 0 n))) (ok (moved r s now)))
-    ≡ ok (moved r (step clocks sub) (now + bit (carries clocks sub)))
-unfolding step carries
-part-moves r sub now h l = rw (lt-ltb (sub + 1) u32 (omega arith)) (go (eqb (sub + 1) 2097152) l)
-  where
-    go : (t : Bool) → now + bit t < u64
-        → pick t (bind (addIn u64 now 1) (λ n. ok (moved r 0 n))) (ok (moved r (sub + 1) now))
-        ≡ ok (moved r (pick t 0 (sub + 1)) (now + bit t))
-    go true m = rw (lt-ltb (now + 1) u64 m) refl
-    go false m = rw add-zero refl
+-- the state x, where its time is still a u64
+abbrev inWord : RtcRegister → Outcome RtcRegister
+inWord x = pick (ltb (x .now) u64) (ok x) panic
 
-part : (r : RtcRegister) (c : Clock) → r .halt ≡ c .running .halt → c .sub < 2097152 → tick c .time < u64
-    → clockSecondPart (counted r c) ≡ ok (counted r (tick c))
+in-word : (x : RtcRegister) → x .now < u64 → inWord x ≡ ok x
+in-word x l = ap (λ (t : Bool). pick t (ok x) panic) (lt-ltb (x .now) u64 l)
+
+past-word : (x : RtcRegister) → u64 ≤ x .now → inWord x ≡ panic
+past-word x g = ap (λ (t : Bool). pick t (ok x) panic) (le-ltb (x .now) u64 g)
+
+-- where the RTC does not halt
+part-moves : (r : RtcRegister) (sub now : ℕ) → sub < 2097152 → now < u64
+    → bind (addIn u32 sub 1) (λ s. pick (eqb s 2097152) (bind (addIn u64 now 1) (λ n. ok (moved r 0 n))) (ok (moved r s now)))
+    ≡ inWord (moved r (step clocks sub) (now + bit (carries clocks sub)))
+unfolding step carries
+part-moves r sub now h l = rw (lt-ltb (sub + 1) u32 (omega arith)) (go (eqb (sub + 1) 2097152))
+  where
+    added : (t : Bool) → bind (pick t (ok (now + 1)) panic) (λ n. ok (moved r 0 n)) ≡ pick t (ok (moved r 0 (now + 1))) panic
+    added true = refl
+    added false = refl
+
+    go : (t : Bool) → pick t (bind (addIn u64 now 1) (λ n. ok (moved r 0 n))) (ok (moved r (sub + 1) now))
+        ≡ inWord (moved r (pick t 0 (sub + 1)) (now + bit t))
+    go true = added (ltb (now + 1) u64)
+    go false = rw add-zero (sym (in-word (moved r (sub + 1) now) l))
+
+part : (r : RtcRegister) (c : Clock) → r .halt ≡ c .running .halt → c .sub < 2097152 → c .time < u64
+    → clockSecondPart (counted r c) ≡ inWord (counted r (tick c))
 unfolding clockSecondPart tick moving
-part r c e h l = ap (λ (t : Bool). pick (not t) whole (ok (counted r c))) e ∙ go (c .running .halt) l
+part r c e h l = ap (λ (t : Bool). pick (not t) whole (ok (counted r c))) e ∙ go (c .running .halt)
   where
     whole : Outcome RtcRegister
     whole =
         bind (addIn u32 (c .sub) 1)
         (λ s. pick (eqb s 2097152) (bind (addIn u64 (c .time) 1) (λ n. ok (moved r 0 n))) (ok (moved r s (c .time))))
 
-    go : (t : Bool) → pick t c (moving c) .time < u64
-        → pick (not t) whole (ok (counted r c)) ≡ ok (counted r (pick t c (moving c)))
-    go true m = refl
-    go false m = part-moves r (c .sub) (c .time) h m
+    go : (t : Bool) → pick (not t) whole (ok (counted r c)) ≡ inWord (counted r (pick t c (moving c)))
+    go true = sym (in-word (counted r c) l)
+    go false = part-moves r (c .sub) (c .time) h l
 
 -- ---- n clocks
 
@@ -100,14 +112,28 @@ tick-later : (c : Clock) → c .time ≤ tick c .time
 unfolding ticks
 tick-later c = time-grows 1 c
 
+counts-all : (n : ℕ) (c : Clock) (r : RtcRegister) → Counts c r → c .time < u64 → secondParts n r ≡ inWord (counted r (ticks n c))
+unfolding secondParts ticks
+counts-all zero c r k l =
+    ap (λ (x : ℕ). ok (moved r x (r .now))) (k .sub) ∙ ap (λ (x : ℕ). ok (moved r (c .sub) x)) (k .time)
+    ∙ sym (in-word (counted r c) l)
+counts-all (suc n) c r k l =
+    ap (λ (o : Outcome RtcRegister). bind o clockSecondPart) (counts-all n c r k l) ∙ go (ltb (ticks n c .time) u64) refl
+  where
+    go : (t : Bool) → ltb (ticks n c .time) u64 ≡ t
+        → bind (pick t (ok (counted r (ticks n c))) panic) clockSecondPart ≡ inWord (counted r (tick (ticks n c)))
+    go true e =
+        part r (ticks n c) (k .halt ∙ sym (ticks-halt n c)) (ticks-room n c (k .room)) (ltb-true (ticks n c .time) u64 e)
+    go false e =
+        let late = ltb-false (ticks n c .time) u64 e in
+        sym (past-word (counted r (tick (ticks n c))) (omega (arith, tick-later (ticks n c))))
+
 pub counts-on : (n : ℕ) (c : Clock) (r : RtcRegister) → Counts c r → ticks n c .time < u64
     → secondParts n r ≡ ok (counted r (ticks n c))
-unfolding secondParts ticks
-counts-on zero c r k l = ap (λ (x : ℕ). ok (moved r x (r .now))) (k .sub) ∙ ap (λ (x : ℕ). ok (moved r (c .sub) x)) (k .time)
-counts-on (suc n) c r k l =
-    ap (λ (o : Outcome RtcRegister). bind o clockSecondPart)
-    (counts-on n c r k (omega (arith, tick-later (ticks n c))))
-    ∙ part r (ticks n c) (k .halt ∙ sym (ticks-halt n c)) (ticks-room n c (k .room)) l
+counts-on n c r k l = counts-all n c r k (omega (arith, time-grows n c)) ∙ in-word (counted r (ticks n c)) l
+
+pub counts-stop : (n : ℕ) (c : Clock) (r : RtcRegister) → Counts c r → c .time < u64 → u64 ≤ ticks n c .time → secondParts n r ≡ panic
+counts-stop n c r k l g = counts-all n c r k l ∙ past-word (counted r (ticks n c)) g
 
 -- and it still counts
 pub counts-after : (n : ℕ) (c : Clock) (r : RtcRegister) → Counts c r → Counts (ticks n c) (counted r (ticks n c))

@@ -4,16 +4,17 @@ use mathlib.Core.List.{List, [], _∷_}
 use mathlib.Core.Path.{_≡_, refl, sym, ap, _∙_, subst}
 use Prim.Native.Nat.{ℕ, _+_, _%_, _<_}
 use native.Mathlib.Omega.{arith}
-use lib.Dec.{eqb, leb}
-use borrow.Author.Tests.{lt-ltb, eq-eqb, eqb-true, leb-true, ltb-false}
+use lib.Dec.{eqb}
+use borrow.Author.Tests.{eq-eqb, eqb-true, leb-true, ltb-false}
 use Rattle.facts.specs.Choice.{pick, both, either}
 use Rattle.facts.proofs.ChoiceLaws.{false≢true, both-parts, both-true, either-true, not-true, neither}
-use Rattle.clock.specs.Access.{writtenOf, writtenClock}
+use Rattle.clock.specs.Access.{writtenClock}
 use Rattle.clock.specs.Ticking.{ticks}
 use Rattle.mbc3.specs.Registers as mbc3
 use Rattle.mbc3.specs.declared.Mbc3 as declared
 use Rattle.timer.specs.Advance as timer
-use Rattle.timer.specs.ClockWindow.{onClock, clockOr, windowWritten}
+use Rattle.timer.specs.ClockWindow.{onClock, windowWritten}
+use Rattle.timer.proofs.WindowLaws.{on-timer, write-on, written-there}
 use Rattle.mapper.specs.Mappers.{clocksOn}
 use Rattle.mapper.specs.declared.Mapper.{Mapper}
 use Rattle.mapper.specs.declared.Mapper.the-variants.{Mbc3}
@@ -31,6 +32,7 @@ use Rattle.original.specs.Domain.{
   clear,
   proper,
   timed,
+  within,
   sinceAfter,
   Allowed,
   InDomain,
@@ -89,20 +91,16 @@ implied false b e q = false≢true q
 of-timer : (f : declared.Mbc3 → Bool) (t : declared.Mbc3) → timed f (Mbc3 t) ≡ true → t .timer ≡ true → f t ≡ true
 of-timer f t = implied (t .timer) (f t)
 
-on-timer : (t : declared.Mbc3) → onClock t ≡ true → t .timer ≡ true
-on-timer t e = both-parts (t .timer) (both (t .enabled) (not (t .memory))) e .0
+-- "clock time would pass 2^64 - 1 seconds" is not so
+pub in-time : (t : declared.Mbc3) (s : Since) (n : ℕ) → within t s (clocks n) ≡ true
+    → ticks (pick (t .timer) n (s .idle + n)) (t .clock) .time < u64
+in-time t s n e =
+    let x = ticks (pick (t .timer) n (s .idle + n)) (t .clock) .time in
+    let l = ltb-false 18446744073709551615 x (not-true _ e) in
+    omega arith
 
 module _ (banks size : ℕ) (s : Since) (t : declared.Mbc3) (u : rust.Mbc3) (same : Same banks size s t u) where
   module _ (at byte : ℕ) (next : Mapper) (allowed : Allowed (Mbc3 t) s (writes at byte) next) where
-    -- "accesses that 15 and 16 don't refuse"
-    pub selectable : both (leb 0x4000 at) (leb at 0x5FFF) ≡ true → mbc3.selectable byte ≡ true
-    selectable h = go (both (leb 0x4000 at) (leb at 0x5FFF)) (mbc3.selectable byte) h (not-true _ (allowed .selection))
-      where
-        go : (a b : Bool) → a ≡ true → both a (not b) ≡ false → b ≡ true
-        go true true p q = refl
-        go true false p q = sym q
-        go false b p q = false≢true p
-
     -- "before .. any latch, clock write": nothing is due
     none-due : t .timer ≡ true → either (latchWrite at) (clockWrite t at) ≡ true → s .due ≡ 0
     none-due h e =
@@ -142,13 +140,11 @@ module _ (banks size : ℕ) (s : Since) (t : declared.Mbc3) (u : rust.Mbc3) (sam
 
     pub clock-write : inRam at ≡ true → next ≡ Mbc3 (windowWritten t byte) → onClock t ≡ true
         → ClockWrite banks size s t u same byte
-    unfolding windowWritten writtenOf
     clock-write i e on =
         let w : clockWrite t at ≡ true = both-true i on in
         let timer = on-timer t on in
-        let after = ap (λ (b : Bool). pick b (clockOr t (writtenOf (t .clock) (t .register) byte)) t) on in
         let there : windowWritten t byte ≡ mbc3.withClock t (writtenClock (t .clock) (t .register) byte) =
-        after ∙ rw (lt-ltb (t .register) 5 (same .register)) refl in
+        sym (write-on t byte _ on refl) ∙ written-there t byte (same .register) in
         let kept = subst (λ (m : Mapper). timed clear m ≡ true) (e ∙ ap Mbc3 there) (allowed .clear) in
         record {
           none = none-due timer (ap (either (latchWrite at)) w ∙ either-true (latchWrite at));
@@ -157,13 +153,6 @@ module _ (banks size : ℕ) (s : Since) (t : declared.Mbc3) (u : rust.Mbc3) (sam
         }
 
   module _ (n : ℕ) (allowed : Allowed (Mbc3 t) s (clocks n) (clocksOn (Mbc3 t) n)) where
-    -- "clock time would pass 2^64 - 1 seconds" is not so
-    pub in-time : ticks (pick (t .timer) n (s .idle + n)) (t .clock) .time < u64
-    in-time =
-        let x = ticks (pick (t .timer) n (s .idle + n)) (t .clock) .time in
-        let l = ltb-false 18446744073709551615 x (not-true _ (allowed .time)) in
-        omega arith
-
     -- "no carry has been set", "no second passes while frozen", a read "follows each completed second before the next one"
     pub clocks-allowed : t .timer ≡ true → Clocks banks size s t u same n
     unfolding timer.clocksOn

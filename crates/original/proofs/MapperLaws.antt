@@ -23,6 +23,7 @@ use Rattle.mbc2.specs.Registers as our2
 use Rattle.mbc2.specs.declared.Mbc2 as declared2
 use Rattle.mbc3.specs.Registers as reg3
 use Rattle.mbc3.specs.declared.Mbc3 as declared3
+use Rattle.mbc3.proofs.Laws.{good-selection}
 use Rattle.mbc3.proofs.FitLaws as our3
 use Rattle.clock.specs.Ticking as clock
 use Rattle.timer.specs.Advance.{lateOf}
@@ -153,7 +154,7 @@ register-same (Mbc2 m) o past {banks} {size} {area} f s addr byte h l d =
 register-same (Mbc3 m) o past {banks} {size} f (u, p, q) addr byte h l d =
     let x =
     mbc3.write-register banks size past m u q addr byte h l
-    (domain.selectable banks size past m u q addr byte (written (Mbc3 m) addr byte) d)
+    (good-selection addr byte (not-true _ (d .selection)))
     (domain.latch-due banks size past m u q addr byte (written (Mbc3 m) addr byte) d) in
     record {
       next = original.Mbc3 (x .next);
@@ -229,6 +230,33 @@ module _ (size : ℕ) (area : List ℕ) (long : length area ≡ size + 512) wher
   front = length-take-le size area (omega (arith, long))
 
 -- MBC3's window: RAM, a clock register or nothing
+pub stored-byte : (m : declared3.Mbc3) (size : ℕ) (area : List ℕ) (addr byte : ℕ) → length area ≡ size
+    → writeAt (take size area) (follows.storedAt m size addr) byte ≡ ok (take size (window.areaAfter (Mbc3 m) size area addr byte))
+unfolding window.areaAfter
+stored-byte m size area addr byte long = by (m .memory)
+  where
+    by : (t : Bool)
+        → writeAt (take size area) (pick t (resultOf (reg3.ramAt m size addr)) NotMapped) byte
+        ≡ ok (take size (window.areaBy (pick t (Bytes (reg3.ramAt m size addr)) (Timer m)) size area addr byte))
+    by true = bytes-write (reg3.ramAt m size addr) size area long (our3.ram-at-inside m size addr) byte
+    by false = refl
+
+-- a write to RAM leaves the mapper, and so does one to a clock register that does not stand in the window
+pub after-write : (m : declared3.Mbc3) (size addr byte : ℕ) → window.mapperAfter (Mbc3 m) size addr byte ≡ Mbc3 (windowWritten m byte)
+unfolding window.mapperAfter
+after-write m size addr byte = by (m .memory) refl
+  where
+    off : (a b : Bool) → both a (both b false) ≡ false
+    off true true = refl
+    off true false = refl
+    off false b = refl
+
+    by : (t : Bool) → m .memory ≡ t
+        → window.mapperBy (pick t (Bytes (reg3.ramAt m size addr)) (Timer m)) (Mbc3 m) byte ≡ Mbc3 (windowWritten m byte)
+    by true e =
+        ap Mbc3 (write-off m byte (ap (λ (x : Bool). both (m .timer) (both (m .enabled) (not x))) e ∙ off (m .timer) (m .enabled)))
+    by false e = refl
+
 module _ (banks size : ℕ) (area : List ℕ) (past : Since) (m : declared3.Mbc3) (u : rust3.Mbc3)
     (q : follows.Same banks size past m u)
     (addr : ℕ) where
@@ -243,35 +271,6 @@ module _ (banks size : ℕ) (area : List ℕ) (past : Since) (m : declared3.Mbc3
           ≡ ok (window.readBy (pick t (Bytes (reg3.ramAt m size addr)) (Timer m)) size area addr)
       by true = bytes-read (reg3.ramAt m size addr) size area long (our3.ram-at-inside m size addr)
       by false = valued (take size area) (onClock m) _
-
-  stored-byte : (byte : ℕ) → length area ≡ size
-      → writeAt (take size area) (follows.storedAt m size addr) byte ≡ ok
-      (take size (window.areaAfter (Mbc3 m) size area addr byte))
-  unfolding window.areaAfter
-  stored-byte byte long = by (m .memory)
-    where
-      by : (t : Bool)
-          → writeAt (take size area) (pick t (resultOf (reg3.ramAt m size addr)) NotMapped) byte
-          ≡ ok (take size (window.areaBy (pick t (Bytes (reg3.ramAt m size addr)) (Timer m)) size area addr byte))
-      by true = bytes-write (reg3.ramAt m size addr) size area long (our3.ram-at-inside m size addr) byte
-      by false = refl
-
-  -- a write to RAM leaves the mapper, and so does one to a clock register that does not stand in the window
-  after-write : (byte : ℕ) → window.mapperAfter (Mbc3 m) size addr byte ≡ Mbc3 (windowWritten m byte)
-  unfolding window.mapperAfter windowWritten
-  after-write byte = by (m .memory) refl
-    where
-      off : (a b : Bool) → both a (both b false) ≡ false
-      off true true = refl
-      off true false = refl
-      off false b = refl
-
-      by : (t : Bool) → m .memory ≡ t
-          → window.mapperBy (pick t (Bytes (reg3.ramAt m size addr)) (Timer m)) (Mbc3 m) byte ≡ Mbc3 (windowWritten m byte)
-      by true e =
-          ap Mbc3 (write-off m byte (ap (λ (x : Bool). both (m .timer) (both (m .enabled) (not x))) e
-          ∙ off (m .timer) (m .enabled)))
-      by false e = refl
 
   clock-read : {o : original.Mapper} → inRam addr ≡ true → length area ≡ size → o ≡ original.Mbc3 u
       → ReadSame banks size area (sinceAfter (Mbc3 m) past (reads addr)) (Mbc3 m) o addr
@@ -300,17 +299,17 @@ module _ (banks size : ℕ) (area : List ℕ) (past : Since) (m : declared3.Mbc3
       let x =
       mbc3.write-mapped banks size past m u q addr byte l
       (domain.clock-write banks size past m u q addr byte (window.mapperAfter (Mbc3 m) size addr byte) d i
-      (after-write byte)) in
+      (after-write m size addr byte)) in
       record {
         next = original.Mbc3 (x .next);
         result = follows.storedAt m size addr;
         is =
             ap (λ (y : original.Mapper). original.mapRamWrite y addr byte) p ∙ ap (boxedResult original.Mbc3) (x .is);
-        ram = stored-byte byte long;
+        ram = stored-byte m size area addr byte long;
         same =
             subst (λ (y : Mapper). SameMapper banks size (window.areaAfter (Mbc3 m) size area addr byte) past y
             (original.Mbc3 (x .next)))
-            (sym (after-write byte)) (x .next, refl, x .same);
+            (sym (after-write m size addr byte)) (x .next, refl, x .same);
       }
 
 -- a mapper whose window is a place in RAM, and that no access there changes
@@ -440,7 +439,7 @@ clocks-same (Mbc1 m) o past f s n d = record { next = o; is = still o (ap origin
 clocks-same (Mbc2 m) o past f s n d = record { next = o; is = still o (ap original.clock s ∙ ap ok (sym s)) n; same = s }
 clocks-same (Mbc3 m) o past {banks} {size} f (u, p, q) n d =
     let x =
-    mbc3.clocks-same banks size past m u q n (domain.in-time banks size past m u q n d)
+    mbc3.clocks-same banks size past m u q n (domain.in-time m past n (d .time))
     (domain.clocks-allowed banks size past m u q n d) in
     record {
       next = original.Mbc3 (x .next);

@@ -2,7 +2,7 @@
 -- domain stand as premises where they are used. Assumes nothing.
 use mathlib.Core.Bool.{Bool, true, false, not}
 use mathlib.Core.Path.{_≡_, refl, sym, ap, _∙_, subst}
-use Prim.Native.Nat.{ℕ, _+_, _-_, _/_, _%_, _<_, _≤_}
+use Prim.Native.Nat.{ℕ, _+_, _/_, _%_, _<_, _≤_}
 use native.Mathlib.Omega.{arith}
 use lib.Bits.{bitAnd}
 use lib.Dec.{eqb, leb}
@@ -19,12 +19,12 @@ use Rattle.mbc3.specs.Registers as ours
 use Rattle.mbc3.specs.declared.Mbc3 as declared
 use Rattle.timer.specs.Advance as timer
 use Rattle.timer.specs.ClockWindow.{onClock, windowRead, clockOr, windowWritten}
-use Rattle.timer.proofs.WindowLaws.{read-off}
+use Rattle.timer.proofs.WindowLaws.{on-timer, read-off, written-there}
 use Rattle.bus.specs.Run.{clocks}
 use Rattle.original.specs.Machine.{Outcome, ok, bind, sub, u64}
 use Rattle.original.specs.MappingResult.{MappingResult}
 use Rattle.original.specs.Rtc.{RtcRegister, default, readRegister, writeRegister, setLatch}
-use Rattle.original.specs.Mbc3.{Mbc3, new, init, mapRamRead, mapRamWrite, writeBankControllerRegister, clock}
+use Rattle.original.specs.Mbc3.{Mbc3, new, init, mapRamRead, mapRamWrite, writeBankControllerRegister}
 use Rattle.original.specs.Domain.{Since, since, completed, latchWrite, onward}
 use Rattle.original.specs.Follows.{secondParts, clocksOn, Follows, Counts, Clocked, mbc3Of, Same, shownAt, storedAt}
 use Rattle.original.proofs.Mbc3Forms.{shownWith, read-is, write-is, register-is, clocks-is, Kept, written-kept}
@@ -76,9 +76,6 @@ pub record Stepped (banks size : ℕ) (s : Since) (m : declared.Mbc3) (o : Outco
 -- after an unlatched clock read nothing is due
 abbrev pub afterRead : Since → declared.Mbc3 → Since
 afterRead s m = pick (both (onClock m) (not (m .clock .latched))) (since 0 (s .idle)) s
-
-on-timer : (m : declared.Mbc3) → onClock m ≡ true → m .timer ≡ true
-on-timer m e = both-parts (m .timer) (both (m .enabled) (not (m .memory))) e .0
 
 module _ (banks size : ℕ) (s : Since) (m : declared.Mbc3) (u : Mbc3) (same : Same banks size s m u) where
   -- with a timer the RTC follows our clock
@@ -162,11 +159,6 @@ module _ (banks size : ℕ) (s : Since) (m : declared.Mbc3) (u : Mbc3) (same : S
     pub proper : ProperWrite (m .register) byte
     pub clear : writtenClock (m .clock) (m .register) byte .running .carry ≡ false
 
-  written-there : (byte : ℕ)
-      → clockOr m (writtenOf (m .clock) (m .register) byte) ≡ ours.withClock m (writtenClock (m .clock) (m .register) byte)
-  unfolding writtenOf
-  written-there byte = rw (lt-ltb (m .register) 5 (same .register)) refl
-
   pub write-mapped : (at byte : ℕ) → byte < 256 → (onClock m ≡ true → ClockWrite byte)
       → Mapped banks size s (windowWritten m byte) (mapRamWrite u at byte) (storedAt m size at)
   unfolding windowWritten
@@ -188,7 +180,7 @@ module _ (banks size : ℕ) (s : Since) (m : declared.Mbc3) (u : Mbc3) (same : S
           subst (λ (y : declared.Mbc3). Mapped banks size s y
           (bind (writeRegister (same .rtc) (m .register) byte) (λ x. mapped (mbc3Of banks size m x) (storedAt m size at)))
           (storedAt m size at))
-          (sym (written-there byte))
+          (sym (written-there m byte (same .register)))
           (record {
             next = mbc3Of banks size m (x .next);
             is = ap (λ (o : Outcome RtcRegister). bind o (λ y. mapped (mbc3Of banks size m y) (storedAt m size at))) (x .is);

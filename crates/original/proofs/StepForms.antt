@@ -101,17 +101,18 @@ module _ (o : Cartridge) where
 
   -- ---- a register
 
-  pub register-write : (addr byte : ℕ) (next : original.Mapper) → addr < 0x8000
-      → original.writeBankControllerRegister (o .mapper) addr byte ≡ ok next
-      → originalStep o (writes addr byte) ≡ ok (left took (withMapper o next))
+  -- the access is taken with the mapper that comes of it, or panics as the mapper does
+  abbrev pub takenWith : Outcome original.Mapper → Outcome Left
+  takenWith x = bind (bind x (λ y. ok (withMapper o y))) (λ d. ok (left took d))
+
+  pub register-write : (addr byte : ℕ) (x : Outcome original.Mapper) → addr < 0x8000
+      → original.writeBankControllerRegister (o .mapper) addr byte ≡ x → originalStep o (writes addr byte) ≡ takenWith x
   unfolding writeToBankController
-  register-write addr byte next h e =
-      rw (inside 0x0000 0x7FFF addr (omega arith) (omega arith))
-      (ap (λ (y : Outcome original.Mapper). bind (bind y (λ z. ok (withMapper o z))) (λ d. ok (left took d))) e)
+  register-write addr byte x h e = rw (inside 0x0000 0x7FFF addr (omega arith) (omega arith)) (ap takenWith e)
 
   -- ---- clocks: those of the mapper
 
-  pub cart-clocks : (n : ℕ) → clocksOf n o ≡ bind (mapperClocks n (o .mapper)) (λ x. ok (withMapper o x))
+  cart-clocks : (n : ℕ) → clocksOf n o ≡ bind (mapperClocks n (o .mapper)) (λ x. ok (withMapper o x))
   unfolding clocksOf clockMapper
   cart-clocks zero = refl
   cart-clocks (suc n) =
@@ -122,8 +123,5 @@ module _ (o : Cartridge) where
       go (ok y) = refl
       go panic = refl
 
-  pub clocks-pass : (n : ℕ) (next : original.Mapper) → mapperClocks n (o .mapper) ≡ ok next
-      → originalStep o (clocks n) ≡ ok (left took (withMapper o next))
-  clocks-pass n next e =
-      ap (λ (y : Outcome Cartridge). bind y (λ d. ok (left took d)))
-      (cart-clocks n ∙ ap (λ (y : Outcome original.Mapper). bind y (λ z. ok (withMapper o z))) e)
+  pub clocks-pass : (n : ℕ) (x : Outcome original.Mapper) → mapperClocks n (o .mapper) ≡ x → originalStep o (clocks n) ≡ takenWith x
+  clocks-pass n x e = ap (λ (y : Outcome Cartridge). bind y (λ d. ok (left took d))) (cart-clocks n) ∙ ap takenWith e

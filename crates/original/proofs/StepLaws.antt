@@ -1,16 +1,16 @@
 -- Access by access: the original does not panic, gives the byte that we give, and its state stays the one that goes with ours.
 -- Assumes nothing.
-use mathlib.Core.Bool.{Bool, true, false, not}
-use mathlib.Core.List.{List, [], _∷_, _++_}
+use mathlib.Core.Bool.{Bool, true, false}
+use mathlib.Core.List.{List, _++_}
 use mathlib.Core.Path.{_≡_, refl, sym, ap, _∙_, subst}
 use Prim.Native.Nat.{ℕ, _+_, _*_, _%_, _<_, _≤_}
 use native.Mathlib.Omega.{arith}
 use lib.Dec.{eqb}
-use lib.ListN.{length, take, drop, take-append-drop}
-use borrow.Author.Tests.{eq-eqb, leb-true}
+use lib.ListN.{take, drop, take-append-drop}
+use borrow.Author.Tests.{leb-true}
 use Rattle.facts.specs.Choice.{pick, both, either}
 use Rattle.facts.specs.Listed.{oneOf}
-use Rattle.facts.proofs.ChoiceLaws.{both-true, both-parts, not-true, pick-has}
+use Rattle.facts.proofs.ChoiceLaws.{both-parts, not-true, pick-has}
 use Rattle.facts.proofs.ListLaws.{part-set}
 use Rattle.bytes_le.specs.Little.{Octets}
 use Rattle.bytes_le.proofs.OctetLaws.{octets-set}
@@ -19,35 +19,30 @@ use Rattle.image.specs.Image.{paddedLength}
 use Rattle.header.specs.Size.{ramSizes}
 use Rattle.mbc2.specs.Registers as our2
 use Rattle.mbc2.specs.declared.Mbc2 as declared2
-use Rattle.clock.specs.declared.AdvanceRefusal.the-variants as late
 use Rattle.mapper.specs.Mappers as mapper
 use Rattle.mapper.specs.declared.Mapper.{Mapper}
 use Rattle.window.specs.Window as window
 use Rattle.window.specs.declared.Way.{Way}
 use Rattle.window.specs.declared.Way.the-variants.{Bytes, Half, Timer}
-use Rattle.cartridge.specs.Fit.{bankCounts, fitBoard, fitCart}
+use Rattle.cartridge.specs.Fit.{bankCounts, fitBoard}
 use Rattle.cartridge.specs.With.{withMapper}
 use Rattle.cartridge.specs.declared.Cartridge as our
 use Rattle.cartridge.proofs.Laws.{fit-board, fit-registers, fit-banks}
-use Rattle.access.specs.Verdict.{inRom, inRam, verdictOf}
-use Rattle.access.specs.declared.BusRefusal.the-variants.{BadAddress}
-use Rattle.access.specs.declared.Verdict.{Verdict}
-use Rattle.access.specs.declared.Verdict.the-variants.{Rom, Ram, Refuse}
-use Rattle.access.proofs.Laws.{by-tests}
-use Rattle.bus.specs.Bus.{lentBoth, lentArea, readVerdict, writeVerdict, romByte, readBy, readOf, writeBy, writeOf, areaBy, areaAfter}
-use Rattle.bus.specs.Advance.{advanceOf}
+use Rattle.access.specs.Verdict.{inRom, inRam}
+use Rattle.access.specs.declared.Verdict.the-variants.{Rom, Ram}
+use Rattle.access.proofs.Laws.{ram-bounds}
+use Rattle.bus.specs.Bus.{romByte, readBy, writeBy, areaBy}
 use Rattle.bus.specs.Run as run
-use Rattle.bus.specs.Run.{Access, Machine, afterRead, afterWrite, afterClocks, stepOf, Ready}
-use Rattle.bus.specs.declared.Advanced.the-variants as advanced
+use Rattle.bus.specs.Run.{Access, Machine, afterRead, afterWrite, stepOf, Ready}
 use Rattle.runs.specs.Calls.{Octet}
-use Rattle.original.specs.Machine.{Outcome, ok, bind}
+use Rattle.runs.proofs.StepLaws.{read-step, write-step, clock-step}
+use Rattle.original.specs.Machine.{ok}
 use Rattle.original.specs.Cartridge as cartridge
 use Rattle.original.specs.Cartridge.{Cartridge, readAt, writeAt}
 use Rattle.original.specs.Same.{Same, Fit}
 use Rattle.original.specs.Step.{left, originalStep}
 use Rattle.original.specs.Domain.{Since, sinceAfter, Allowed}
 use Rattle.original.specs.Along.{Stepped}
-use Rattle.original.proofs.MachineLaws.{inside}
 use Rattle.original.proofs.StepForms as forms
 use Rattle.original.proofs.MapperLaws.{rom0-same, romx-same, register-same, read-same, write-same, clocks-same, past-write, past-rom, early}
 
@@ -93,13 +88,6 @@ fit-of {m = m} r s =
       octets = s .octets;
     }
 
--- the verdict on an access in the windows
-window-of : (c : our.Cartridge) (lent : Bool) (addr : ℕ) (bad : Bool) → fitCart c ≡ true → lent ≡ true → bad ≡ false
-    → either (inRom addr) (inRam addr) ≡ true → verdictOf c lent addr bad ≡ pick (inRom addr) Rom Ram
-window-of c lent addr bad f l b w =
-    sym (by-tests c lent addr bad f l refl refl b)
-    ∙ ap (λ (t : Bool). pick (not t) (Refuse BadAddress) (pick (inRom addr) Rom Ram)) w
-
 -- ---- one access
 
 module _ {image : List ℕ} {past : Since} {m : Machine} {o : Cartridge} (r : Ready image m) (s : Same image past m o) where
@@ -117,15 +105,16 @@ module _ {image : List ℕ} {past : Since} {m : Machine} {o : Cartridge} (r : Re
       (λ l. romx-same (board .mapper) (o .mapper) past known (s .mapper) addr l h)
 
   -- and one of the window
-  ram-read : (addr : ℕ) → 0xA000 ≤ addr → addr ≤ 0xBFFF
+  ram-read : (addr : ℕ) → inRam addr ≡ true
       → Stepped image (sinceAfter (board .mapper) past (run.reads addr)) o (run.reads addr)
       (record { answer = run.gave (window.readOf (board .mapper) (board .size) (m .area) addr); left = m })
-  ram-read addr l h =
-      let x = read-same (board .mapper) (o .mapper) past known (s .mapper) addr (inside 0xA000 0xBFFF addr l h) in
+  ram-read addr i =
+      let x = read-same (board .mapper) (o .mapper) past known (s .mapper) addr i in
+      let p = ram-bounds addr i in
       record {
         next = cartridge.withMapper o (x .next);
         is =
-            forms.window-read o addr (x .next) (x .result) _ l h (x .is)
+            forms.window-read o addr (x .next) (x .result) _ (p .0) (p .1) (x .is)
             (ap (λ (ram : List ℕ). readAt ram (x .result)) (s .ram) ∙ x .byte);
         same = record { rom = s .rom; ram = s .ram; octets = s .octets; mapper = x .same };
       }
@@ -142,12 +131,12 @@ module _ {image : List ℕ} {past : Since} {m : Machine} {o : Cartridge} (r : Re
       let x = register-same (board .mapper) (o .mapper) past known (s .mapper) addr byte h b d in
       record {
         next = cartridge.withMapper o (x .next);
-        is = forms.register-write o addr byte (x .next) h (x .is);
+        is = forms.register-write o addr byte (ok (x .next)) h (x .is);
         same = record { rom = s .rom; ram = s .ram; octets = s .octets; mapper = x .same };
       }
 
   -- a write to the window
-  ram-write : (addr byte : ℕ) → byte < 256 → 0xA000 ≤ addr → addr ≤ 0xBFFF
+  ram-write : (addr byte : ℕ) → byte < 256 → inRam addr ≡ true
       → Allowed (board .mapper) past (run.writes addr byte) (window.mapperAfter (board .mapper) (board .size) addr byte)
       → Stepped image past o (run.writes addr byte)
       (record {
@@ -158,13 +147,14 @@ module _ {image : List ℕ} {past : Since} {m : Machine} {o : Cartridge} (r : Re
               area = window.areaAfter (board .mapper) (board .size) (m .area) addr byte;
             };
       })
-  ram-write addr byte b l h d =
-      let x = write-same (board .mapper) (o .mapper) past known (s .mapper) addr byte (inside 0xA000 0xBFFF addr l h) b d in
+  ram-write addr byte b i d =
+      let x = write-same (board .mapper) (o .mapper) past known (s .mapper) addr byte i b d in
+      let p = ram-bounds addr i in
       let after = window.areaAfter (board .mapper) (board .size) (m .area) addr byte in
       record {
         next = cartridge.withRam o (x .next) (take (board .size) after);
         is =
-            forms.window-write o addr byte (x .next) (x .result) (take (board .size) after) l h (x .is)
+            forms.window-write o addr byte (x .next) (x .result) (take (board .size) after) (p .0) (p .1) (x .is)
             (ap (λ (ram : List ℕ). writeAt ram (x .result) byte) (s .ram) ∙ x .ram);
         same =
             record {
@@ -187,39 +177,9 @@ module _ {image : List ℕ} {past : Since} {m : Machine} {o : Cartridge} (r : Re
       let x = clocks-same (board .mapper) (o .mapper) past known (s .mapper) n d in
       record {
         next = cartridge.withMapper o (x .next);
-        is = forms.clocks-pass o n (x .next) (x .is);
+        is = forms.clocks-pass o n (ok (x .next)) (x .is);
         same = record { rom = s .rom; ram = s .ram; octets = s .octets; mapper = x .same };
       }
-
--- ---- our own step, in the windows
-
-module _ {image : List ℕ} {m : Machine} (r : Ready image m) where
-  lent : lentBoth (m .cart) (length image) (length (m .area)) ≡ true
-  lent = both-true (eq-eqb _ _ (r .image)) (eq-eqb _ _ (r .area))
-
-  pub read-step : (addr : ℕ) → either (inRom addr) (inRam addr) ≡ true
-      → stepOf image m (run.reads addr) ≡ afterRead m (readBy (m .cart) image (m .area) addr (pick (inRom addr) Rom Ram))
-  unfolding readOf readVerdict
-  read-step addr w =
-      ap (λ (v : Verdict). afterRead m (readBy (m .cart) image (m .area) addr v))
-      (window-of (m .cart) (lentBoth (m .cart) (length image) (length (m .area))) addr false (r .fit) lent refl w)
-
-  pub write-step : (addr byte : ℕ) → either (inRom addr) (inRam addr) ≡ true → mapper.badSelection
-      (m .cart .mapper) addr byte ≡ false
-      → stepOf image m (run.writes addr byte)
-      ≡ afterWrite m (writeBy (m .cart) addr byte (pick (inRom addr) Rom Ram))
-      (areaBy (m .cart) (m .area) addr byte (pick (inRom addr) Rom Ram))
-  unfolding writeOf writeVerdict areaAfter
-  write-step addr byte w b =
-      ap (λ (v : Verdict). afterWrite m (writeBy (m .cart) addr byte v) (areaBy (m .cart) (m .area) addr byte v))
-      (window-of (m .cart) (lentArea (m .cart) (length (m .area))) addr (mapper.badSelection (m .cart .mapper) addr byte)
-      (r .fit)
-      (eq-eqb _ _ (r .area)) b w)
-
-  pub clock-step : (n : ℕ) → mapper.late (m .cart .mapper) n ≡ false
-      → stepOf image m (run.clocks n) ≡ afterClocks m (advanced.To (withMapper (m .cart) (mapper.clocksOn (m .cart .mapper) n)))
-  unfolding advanceOf
-  clock-step n e = rw (r .fit, e)
 
 -- ---- the theorem
 
@@ -244,8 +204,7 @@ step-same {image} {past} {m} {o} r s (run.reads addr) b d =
           is = rom-read r s addr (omega arith);
           same = subst (λ (x : Since). Same image x m o) (sym (past-rom (m .cart .mapper) past addr (omega arith))) s;
         }
-    go false e v =
-        let p = both-parts _ _ v in ram-read r s addr (leb-true 0xA000 addr (p .0)) (leb-true addr 0xBFFF (p .1))
+    go false e v = ram-read r s addr v
 step-same {image} {past} {m} {o} r s (run.writes addr byte) b d =
     let e = write-step r addr byte (d .address) (not-true _ (d .selection)) in
     subst (Stepped image (later m past (run.writes addr byte)) o (run.writes addr byte)) (sym e)
@@ -264,8 +223,7 @@ step-same {image} {past} {m} {o} r s (run.writes addr byte) b d =
         → Stepped image past o (run.writes addr byte) (wrote t)
     go true e v a =
         let h : addr ≤ 0x7FFF = leb-true addr 0x7FFF e in rom-write r s addr byte b (omega arith) a
-    go false e v a =
-        let p = both-parts _ _ v in ram-write r s addr byte b (leb-true 0xA000 addr (p .0)) (leb-true addr 0xBFFF (p .1)) a
+    go false e v a = ram-write r s addr byte b v a
 step-same {image} {past} {m} {o} r s (run.clocks n) b d =
     let e = clock-step r n (early (m .cart .mapper) past n (d .time)) in
     subst (Stepped image (later m past (run.clocks n)) o (run.clocks n)) (sym e)

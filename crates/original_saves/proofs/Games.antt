@@ -30,7 +30,7 @@ use Rattle.original.specs.Cartridge.{Cartridge}
 use Rattle.original.specs.Step.{originalRun}
 use Rattle.original.proofs.StartLaws.{start-same}
 use Rattle.board.proofs.Board.{same-beside, all-held}
-use Rattle.refused.specs.Kept.{keptAnswers}
+use Rattle.runs.specs.Kept.{keptAnswers}
 use Rattle.original_saves.specs.SramFile.{saveSramFile}
 use Rattle.original_saves.specs.Written.{WritesRam, BlockOurs}
 use Rattle.original_saves.specs.ReadIn.{Harmless, CutBlock, Prompt}

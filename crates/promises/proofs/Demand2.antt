@@ -48,6 +48,7 @@ use Rattle.runs.specs.Limits.{Within}
 use Rattle.runs.specs.Game.{Game, mountedMachine, answerTo, Accepted, Readable, begins}
 use Rattle.runs.specs.Calls.{Calls, AtMostOne}
 use Rattle.runs.specs.Calls as calls
+use Rattle.runs.specs.Kept.{keptAnswers}
 use Rattle.runs.proofs.ImageLaws as image
 use Rattle.runs.proofs.BusLaws as laws
 use Rattle.runs.proofs.RunLaws as sequence
@@ -65,7 +66,6 @@ use Rattle.board.specs.Alike.{RunsBeside}
 use Rattle.board.proofs.Board as board
 use Rattle.refused.specs.Served.{Unserved}
 use Rattle.refused.specs.Beyond.{BeyondGives}
-use Rattle.refused.specs.Kept.{keptAnswers}
 use Rattle.refused.proofs.Refused as refused
 use Rattle.original_saves.specs.SramFile.{fromFileWith, saveSramFile, buffer}
 use Rattle.original_saves.specs.Written.{WritesRam, BlockOurs}

@@ -2,6 +2,8 @@ pub mod ImageLaws
 pub mod MapperLaws
 pub mod BusLaws
 pub mod RunLaws
+pub mod StepLaws
+pub mod KeptLaws
 pub mod TimeLaws
 pub mod AdvanceLaws
 pub mod SaveLaws

@@ -7,7 +7,6 @@ use Prim.Native.Nat.{ℕ, _<_}
 use native.Mathlib.Omega.{arith}
 use lib.ListN.{length, length-replicate}
 use borrow.Author.Tests.{eq-eqb}
-use Rattle.facts.specs.Choice.{pick, either}
 use Rattle.facts.specs.Refusals.{no, firstNo}
 use Rattle.facts.proofs.ChoiceLaws.{false≢true, both-true}
 use Rattle.clock.specs.declared.AdvanceRefusal.the-variants as late
@@ -24,7 +23,6 @@ use Rattle.bus.specs.Bus.{lentBoth, lentArea, readVerdict, writeVerdict, readBy
 use Rattle.bus.specs.Advance.{advanceOf}
 use Rattle.bus.specs.Run.{Access, Answer, Machine, Left, afterRead, afterWrite, afterClocks, stepOf, runOf, Ready}
 use Rattle.bus.specs.Run as run
-use Rattle.access.specs.declared.BusRefusal.the-variants.{Unfit, WrongLength, BadAddress, BadSelection}
 use Rattle.access.specs.declared.Verdict.{Verdict}
 use Rattle.access.specs.declared.Verdict.the-variants.{Rom, Ram, Refuse}
 use Rattle.bus.specs.declared.ReadAnswer.{ReadAnswer}
@@ -33,7 +31,7 @@ use Rattle.bus.specs.declared.WriteAnswer.{WriteAnswer}
 use Rattle.bus.specs.declared.WriteAnswer.the-variants as write
 use Rattle.bus.specs.declared.Advanced.{Advanced}
 use Rattle.bus.specs.declared.Advanced.the-variants as advanced
-use Rattle.access.proofs.Laws.{by-tests}
+use Rattle.access.proofs.Laws.{byTests, by-tests}
 use Rattle.runs.specs.Calls.{Called, Calls, Octet, Octets, Neither, AllNeither}
 use Rattle.runs.specs.Calls as calls
 use Rattle.runs.proofs.MapperLaws as kept
@@ -58,6 +56,17 @@ calls-run {rom} (calls.call {as′ = as′} {x = x} c cs) =
       i .1 ∙ ap (λ (y : Left). runOf rom (y .left) as′ .left) e,
     )
 
+-- a step is what a call may answer, and so is the run
+pub called : (rom : List ℕ) (m : Machine) (a : Access) → Called rom m a (stepOf rom m a)
+called rom m (run.reads addr) = calls.read (readOf (m .cart) rom (m .area) addr) refl
+called rom m (run.writes addr byte) =
+    calls.write (writeOf (m .cart) (m .area) addr byte) (areaAfter (m .cart) (m .area) addr byte) refl refl
+called rom m (run.clocks n) = calls.advance (advanceOf (m .cart) n) refl
+
+pub run-called : (rom : List ℕ) (m : Machine) (as′ : List Access) → Calls rom m as′ (runOf rom m as′ .answers) (runOf rom m as′ .left)
+run-called rom m [] = calls.end
+run-called rom m (a ∷ as′) = calls.call (called rom m a) (run-called rom (stepOf rom m a .left) as′)
+
 -- ---- 13 and 14 are not given to a cartridge that is fit and lent its own
 
 -- the verdict on a fit cartridge lent its own is a window, 15 or 16
@@ -69,8 +78,7 @@ Later (Refuse w) = 14 < numberOf w
 later : (c : Cartridge) (lent : Bool) (addr : ℕ) (bad : Bool) → fitCart c ≡ true → lent ≡ true → Later (verdictOf c lent addr bad)
 later c lent addr bad f l = subst Later (by-tests c lent addr bad f l refl refl refl) (go (inRom addr) (inRam addr) bad)
   where
-    go : (i r b : Bool)
-        → Later (firstNo Refuse (no false Unfit ∷ no false WrongLength ∷ no (not (either i r)) BadAddress ∷ no b BadSelection ∷ []) (pick i Rom Ram))
+    go : (i r b : Bool) → Later (byTests true true i r b)
     go true r true = omega arith
     go true r false = tt
     go false true true = omega arith
