@@ -14,6 +14,7 @@ pub mod MapperLaws
 pub mod StepLaws
 pub mod ImageLaws
 pub mod HeaderLaws
+pub mod InitLaws
 pub mod VerdictLaws
 pub mod StartLaws
 pub mod Windows

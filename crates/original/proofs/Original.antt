@@ -4,9 +4,11 @@ use mathlib.Core.List.{List}
 use mathlib.Core.Path.{_≡_, _∙_}
 use Prim.Native.Nat.{ℕ, _*_}
 use lib.ListN.{length}
+use Rattle.bytes_le.specs.Little.{Octets}
 use Rattle.header.specs.Check as header
 use Rattle.header.specs.Check.{checkOf}
 use Rattle.header.specs.declared.HeaderRefusal.{HeaderRefusal}
+use Rattle.header.specs.declared.HeaderRefusal.the-variants.{Beyond}
 use Rattle.header.specs.declared.Facts.{Facts}
 use Rattle.header.specs.declared.Checked.the-variants.{Accept, Refuse}
 use Rattle.header.proofs.AcceptedLaws.{accepted-fits}
@@ -19,6 +21,7 @@ use Rattle.original.specs.Cartridge.{Cartridge, CartridgeError, taken, e
 use Rattle.original.specs.Same.{Same}
 use Rattle.original.specs.Domain.{Since, sinceAfter, Allowed}
 use Rattle.original.specs.Verdict.{numberOf, cartridgeOf, ImageInDomain, SameVerdict}
+use Rattle.original.specs.Beyond.{BeyondGives}
 use Rattle.original.specs.Along.{StartSame, Stepped}
 use Rattle.original.proofs.VerdictLaws as verdict
 use Rattle.original.proofs.StartLaws as start
@@ -52,6 +55,11 @@ erred-if image now i w = verdict.erred-by image now (same-verdict image now i)
 pub erred-only : (image : List ℕ) (now : ℕ) → ImageInDomain image → (e : CartridgeError) → fromFile image now ≡ ok (error e)
     → (w : HeaderRefusal) × (checkOf image ≡ Refuse w) × (numberOf e ≡ header.numberOf w)
 erred-only image now i e = verdict.erred-only image now (same-verdict image now i)
+
+-- Where we refuse with 11 it panics, or it is an MBC1 above 128 banks.
+pub eleven-stops : (image : List ℕ) (now : ℕ) → Octets image → checkOf image ≡ Refuse Beyond
+    → BeyondGives (header.rowOf (header.foundOf image) .1) (header.banksOf image) (fromFile image now)
+eleven-stops image now o = verdict.beyond-by image now (verdict.all-given image now o)
 
 -- 2. What we mount goes with what it gives.
 pub start-same : (g : Game) → StartSame g

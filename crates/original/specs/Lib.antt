@@ -14,6 +14,7 @@ pub mod Clauses
 pub mod Follows
 pub mod Same
 pub mod Step
+pub mod Beyond
 pub mod Verdict
 pub mod Along
 pub mod Parting

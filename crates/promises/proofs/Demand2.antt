@@ -56,7 +56,8 @@ use Rattle.original.specs.Machine.{ok, panic, u64}
 use Rattle.original.specs.Cartridge as rust
 use Rattle.original.specs.Cartridge.{CartridgeError, taken, error, fromFile, withRam}
 use Rattle.original.specs.Same.{Same, mbc2Of}
-use Rattle.original.specs.Domain.{Since}
+use Rattle.original.specs.Domain.{Since, inTime}
+use Rattle.original.specs.Beyond.{BeyondGives}
 use Rattle.original.specs.Verdict.{numberOf, cartridgeOf, ImageInDomain}
 use Rattle.original.proofs.Original as original
 use Rattle.original.specs.Step.{originalStep, originalRun}
@@ -65,8 +66,8 @@ use Rattle.board.specs.Beside.{SameBoard}
 use Rattle.board.specs.Alike.{RunsBeside}
 use Rattle.board.proofs.Board as board
 use Rattle.refused.specs.Served.{Unserved}
-use Rattle.refused.specs.Beyond.{BeyondGives}
-use Rattle.refused.proofs.Refused as refused
+use Rattle.refused.proofs.BusLaws.{fifteen-unserved, sixteen-stops, panic-refused}
+use Rattle.refused.proofs.ClockLaws.{seventeen-stops}
 use Rattle.original_saves.specs.SramFile.{fromFileWith, saveSramFile, buffer}
 use Rattle.original_saves.specs.Written.{WritesRam, BlockOurs}
 use Rattle.original_saves.specs.ReadIn.{CutInTime, CutBlock, Prompt, ReadsRam}
@@ -283,23 +284,29 @@ rust-reads-the-ram = stop.timer-ram-read
 -- 8. Nothing is refused without need. Where 11 is given the Rust panics, or it is an MBC1 above 128 banks,
 pub rust-panics-at-11 : (image : List ℕ) (now : ℕ) → bytes.Octets image → checkOf image ≡ Refuse Beyond
     → BeyondGives (header.rowOf (header.foundOf image) .1) (header.banksOf image) (fromFile image now)
-rust-panics-at-11 = refused.eleven-stops
+rust-panics-at-11 = original.eleven-stops
 
 -- where 15 is given it serves no such address, in no state,
 pub rust-serves-no-15 : (rom : List ℕ) (m : Machine) (a : Access) → stepOf rom m a .answer ≡ run.refused 15 → Unserved a
-rust-serves-no-15 = refused.fifteen-unserved
+rust-serves-no-15 = fifteen-unserved
 
 -- and at any point of a game it panics where 16 is given,
 pub rust-panics-at-16 : {g : Game} {file : Option (List ℕ)} {accesses : List Access} {xs : List Answer} {n : Machine}
     → (x : GameAgrees g file accesses xs n) → (a : Access) → stepOf (g .image) n a .answer ≡ run.refused 16
     → originalStep (x .left) a ≡ panic
-rust-panics-at-16 x = refused.sixteen-stops (x .beside)
+rust-panics-at-16 x = sixteen-stops (x .beside)
 
 -- and where 17 is, of an advance.
 pub rust-panics-at-17 : {g : Game} {file : Option (List ℕ)} {accesses : List Access} {xs : List Answer} {n : Machine}
     → (x : GameAgrees g file accesses xs n) → (k : ℕ) → InTime (n .cart .mapper) → stepOf (g .image) n (run.clocks k) .answer ≡ run.refused 17
     → originalStep (x .left) (run.clocks k) ≡ panic
-rust-panics-at-17 x = refused.seventeen-stops (x .beside)
+rust-panics-at-17 x = seventeen-stops (x .beside)
+
+-- And where the Rust panics, and no time passes 2^64 - 1 seconds, 15 or 16 is given.
+pub rust-panics-only-there : {image : List ℕ} (past : Since) {m : Machine} {o : rust.Cartridge} → Ready image m
+    → SameBoard image (past .idle) m o → (a : Access) → calls.Octet a → inTime (m .cart .mapper) past a ≡ true
+    → originalStep o a ≡ panic → (stepOf image m a .answer ≡ run.refused 15) ⊎ (stepOf image m a .answer ≡ run.refused 16)
+rust-panics-only-there = panic-refused
 
 -- 9. "the answer is that part of the caller's image": the title is the part from 0x134 of the accepted facts' length,
 pub title-is-a-part : (image : List ℕ) (d : Facts) → checkOf image ≡ Accept d → TitlePart image 0x134 (d .title)
