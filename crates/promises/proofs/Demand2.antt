@@ -74,6 +74,7 @@ use Rattle.original_saves.specs.ReadIn.{CutInTime, CutBlock, Prompt, ReadsRam}
 use Rattle.original_saves.specs.Agrees.{given, ClockHolds, NothingDue, Unseen, CutHarmless, GameAgrees}
 use Rattle.original_saves.proofs.StopLaws as stop
 use Rattle.original.specs.Mapper as original-mapper
+use Rattle.original.specs.Mbc3 as rust-mbc3
 use Rattle.mapper.specs.declared.Mapper.the-variants as mapper
 use Rattle.mbc2.specs.declared.Mbc2.{Mbc2}
 use Rattle.clock_block.specs.declared.BlockRefusal.the-variants.{Late}
@@ -290,13 +291,12 @@ rust-panics-at-11 = original.eleven-stops
 pub rust-serves-no-15 : (rom : List ℕ) (m : Machine) (a : Access) → stepOf rom m a .answer ≡ run.refused 15 → Unserved a
 rust-serves-no-15 = fifteen-unserved
 
--- and at any point of a game it panics where 16 is given,
-pub rust-panics-at-16 : {g : Game} {file : Option (List ℕ)} {accesses : List Access} {xs : List Answer} {n : Machine}
-    → (x : GameAgrees g file accesses xs n) → (a : Access) → stepOf (g .image) n a .answer ≡ run.refused 16
-    → originalStep (x .left) a ≡ panic
-rust-panics-at-16 x = sixteen-stops (x .beside)
+-- where 16 is given every MBC3 of the Rust's panics, whatever its state,
+pub rust-panics-at-16 : (o : rust.Cartridge) (u : rust-mbc3.Mbc3) → o .mapper ≡ original-mapper.Mbc3 u → (rom : List ℕ) (m : Machine) (a : Access)
+    → stepOf rom m a .answer ≡ run.refused 16 → originalStep o a ≡ panic
+rust-panics-at-16 = sixteen-stops
 
--- and where 17 is, of an advance.
+-- and at any point of a game it panics where 17 is, of an advance.
 pub rust-panics-at-17 : {g : Game} {file : Option (List ℕ)} {accesses : List Access} {xs : List Answer} {n : Machine}
     → (x : GameAgrees g file accesses xs n) → (k : ℕ) → InTime (n .cart .mapper) → stepOf (g .image) n (run.clocks k) .answer ≡ run.refused 17
     → originalStep (x .left) (run.clocks k) ≡ panic
