@@ -1,42 +1,19 @@
 -- The replay by what stands at a place of the trace. Assumes nothing.
-use mathlib.Core.Bool.{Bool, true, false}
 use mathlib.Core.List.{List, _++_, append-assoc}
-use mathlib.Core.Path.{_≡_, refl, sym, ap, _∙_}
-use Prim.Native.Nat.{ℕ, suc, _+_, _-_, _*_, _/_, _%_, _≤_, _<_}
+use mathlib.Core.Path.{_≡_, refl, ap, _∙_}
+use Prim.Native.Nat.{ℕ, suc, _+_}
 use native.Mathlib.Nat.{add-zero}
 use native.Mathlib.Omega.{arith}
-use lib.Dec.{ltb}
-use lib.ListN.{length, drop}
-use borrow.Author.Tests.{lt-ltb}
-use Rattle.facts.specs.Choice.{pick}
-use Rattle.facts.proofs.ChoiceLaws.{ltb-iff}
+use lib.ListN.{length}
 use Rattle.trace.specs.Trace.{refused, recordAt, Records, recordsFrom, recordsOf}
 use Rattle.trace.specs.declared.Record.{Record}
 use Rattle.trace.specs.declared.TraceRefusal.{TraceRefusal}
 use Rattle.trace.specs.declared.Next.the-variants.{Found, End, Refuse}
 use Rattle.trace.proofs.Records.{from-record, from-end, from-refused}
-use Rattle.digits.specs.Put.{Put}
-use Rattle.digits.proofs.PutLaws.{put-front}
-use Rattle.cartridge.specs.declared.Cartridge.{Cartridge}
 use Rattle.lines.specs.Lines.{endLine}
 use Rattle.bus.specs.Run.{Machine, stepOf}
-use Rattle.replay_step.specs.Step.{accessOf, lineOf, machine}
-use Rattle.replay_text.specs.Replay.{
-  stopLine,
-  linesBy,
-  leftBy,
-  textOf,
-  leftOf,
-  roomFor,
-  doneOf,
-  replayOf,
-  areaBy,
-  roomBy,
-  areaAfter,
-  roomAfter,
-}
-use Rattle.replay_text.specs.declared.Replayed.{Replayed}
-use Rattle.replay_text.specs.declared.Replayed.the-variants.{Done, NoRoom}
+use Rattle.replay_step.specs.Step.{accessOf, lineOf}
+use Rattle.replay_text.specs.Replay.{stopLine, linesBy, leftBy, textOf, leftOf}
 
 -- ---- the text from a place on, where k records stood before it
 
@@ -85,51 +62,3 @@ text-whole rom m s =
 pub left-whole : (rom : List ℕ) (m : Machine) (s : List ℕ) → leftBy rom m (recordsFrom s 0) ≡ leftOf rom m s
 unfolding leftOf recordsOf
 left-whole rom m s = refl
-
--- ---- the room's test, which forms no number greater than the lengths
-
-pub room-short : (room trace : ℕ) → room < 48 → true ≡ ltb room (roomFor trace)
-unfolding roomFor
-room-short room trace h = sym (lt-ltb room (5 * trace / 2 + 48) (omega arith))
-
-pub room-test : (room trace : ℕ) → 48 ≤ room
-    → ltb ((room - 48) / 5 * 2 + ((room - 48) % 5 * 2 + 1) / 5) trace ≡ ltb room (roomFor trace)
-unfolding roomFor
-room-test room trace h =
-    ltb-iff ((room - 48) / 5 * 2 + ((room - 48) % 5 * 2 + 1) / 5) trace room (5 * trace / 2 + 48) (λ l. omega arith)
-    (λ l. omega arith)
-
--- ---- the answer by that test, and what it leaves
-
-pub by-room : (c : Cartridge) (rom ram trace : List ℕ) (room : ℕ) {t : Bool} → ltb room (roomFor (length trace)) ≡ t
-    → pick t NoRoom (doneOf c rom ram trace) ≡ replayOf c rom ram trace room
-unfolding replayOf
-by-room c rom ram trace room e = ap (λ (t : Bool). pick t NoRoom (doneOf c rom ram trace)) (sym e)
-
-module _ (c : Cartridge) (rom ram trace room : List ℕ) where
-  abbrev m : Machine
-  m = machine c ram
-
-  -- what an answer says of the area and the room
-  after : {x : Replayed} {area t : List ℕ} → x ≡ replayOf c rom ram trace (length room)
-      → area ≡ areaBy (leftOf rom m trace .area) ram x → t ≡ roomBy (textOf rom m trace) room x
-      → (x ≡ replayOf c rom ram trace (length room))
-      × ((area ≡ areaAfter c rom ram trace (length room)) × (t ≡ roomAfter c rom ram trace room))
-  unfolding areaAfter roomAfter
-  after e f g = (e, (f ∙ ap (areaBy (leftOf rom m trace .area) ram) e, g ∙ ap (roomBy (textOf rom m trace) room) e))
-
-  pub replay-none : ltb (length room) (roomFor (length trace)) ≡ true
-      → (NoRoom ≡ replayOf c rom ram trace (length room))
-      × ((ram ≡ areaAfter c rom ram trace (length room)) × (room ≡ roomAfter c rom ram trace room))
-  replay-none e = after (by-room c rom ram trace (length room) e) refl refl
-
-  pub replay-done : {next : Cartridge} {area t : List ℕ} {n : ℕ} → ltb (length room) (roomFor (length trace)) ≡ false
-      → machine next area ≡ leftOf rom m trace → Put room 0 (textOf rom m trace) t n → n ≤ length room
-      → (Done next n ≡ replayOf c rom ram trace (length room))
-      × ((area ≡ areaAfter c rom ram trace (length room)) × (t ≡ roomAfter c rom ram trace room))
-  replay-done {n = n} e l p h =
-      let z : n ≡ length (textOf rom m trace) = omega (arith, p .behind) in
-      after
-      (ap (λ (x : Machine). Done (x .cart) n) l ∙ ap (Done (leftOf rom m trace .cart)) z ∙ by-room c rom ram trace (length room) e)
-      (ap (λ (x : Machine). x .area) l)
-      (put-front p (omega (arith, h, z)) ∙ ap (λ (k : ℕ). textOf rom m trace ++ drop k room) (sym z))

@@ -1,24 +1,17 @@
 // The replay of a trace against a cartridge, and its text: a line for each record, then why the reading stopped before the trace's
-// end, then the number of records. The text goes to lent room that is long enough for every trace of its length.
+// end, then the number of records. The caller lends room that is long enough for every trace of its length.
 ghost use mathlib.Core.Path.{_≡_};
 ghost use Prim.Native.Nat.{_≤_};
-ghost use lib.Dec.{ltb};
 ghost use lib.ListN.{length};
 ghost use Rattle.digits.specs.Put.{Put};
 ghost use Rattle.replay_step.specs.Step.{machine};
-ghost use Rattle.replay_text.specs.Replay.{roomFor, leftOf, textOf, replayOf, areaAfter, roomAfter};
+ghost use Rattle.replay_text.specs.Replay.{roomFor, leftOf, textOf};
 use cartridge::Cartridge;
 use replay_step::Reached;
 use trace::Next;
 
-pub enum Replayed {
-    // The cartridge then, and how many bytes of the room are the text.
-    Done(Cartridge, usize),
-    NoRoom,
-}
-
 // The records from the trace's start on, then why the reading stopped, then their number.
-fn run(start: Cartridge, rom: &[u8], ram: &mut [u8], trace: &[u8], room: &mut [u8]) -> Reached
+pub fn run(start: Cartridge, rom: &[u8], ram: &mut [u8], trace: &[u8], room: &mut [u8]) -> Reached
     requires { ⌜ roomFor (length (now trace)) ≤ length (now room) ⌝ }
     ensures { λ r. ⌜ machine (r .cart) (now (ram .exit))
         ≡ leftOf (now (rom .entry)) (machine start (now (ram .entry))) (now (trace .entry)) ⌝ }
@@ -54,37 +47,4 @@ fn run(start: Cartridge, rom: &[u8], ram: &mut [u8], trace: &[u8], room: &mut [u
             }
         }
     }
-}
-
-// Whether a room is too short for the text of a trace, by their lengths. No number greater than these is formed.
-fn short_room(room: usize, trace: usize) -> bool
-    ensures { λ r. ⌜ r ≡ ltb room (roomFor trace) ⌝ }
-{
-    if room < 48 {
-        return true;
-    }
-    let spare = room - 48;
-    spare / 5 * 2 + (spare % 5 * 2 + 1) / 5 < trace
-}
-
-// Replays a trace against a cartridge. Lent are the image it was mounted from, its RAM area, the trace, and room for the text.
-pub fn replay(
-    cart: Cartridge,
-    rom: &[u8],
-    ram: &mut [u8],
-    trace: &[u8],
-    room: &mut [u8],
-) -> Replayed
-    ensures { λ r. ⌜ r ≡ replayOf cart (now (rom .entry)) (now (ram .entry)) (now (trace .entry)) (length (now (room .entry))) ⌝ }
-    ensures { λ _. ⌜ now (ram .exit)
-        ≡ areaAfter cart (now (rom .entry)) (now (ram .entry)) (now (trace .entry)) (length (now (room .entry))) ⌝ }
-    ensures { λ _. ⌜ now (room .exit)
-        ≡ roomAfter cart (now (rom .entry)) (now (ram .entry)) (now (trace .entry)) (now (room .entry)) ⌝ }
-{
-    if short_room(room.len(), trace.len()) {
-        return Replayed::NoRoom;
-    }
-    let reached = run(cart, rom, ram, trace, room);
-    let next = reached.cart;
-    Replayed::Done(next, reached.end)
 }
