@@ -1,19 +1,29 @@
 -- A write to a state's bytes, and clocks that pass on them, are the bus's on what the bytes are. Assumes nothing.
 use mathlib.Core.Bool.{Bool, true, false, not}
-use mathlib.Core.List.{List}
-use mathlib.Core.Path.{_≡_, refl, ap, _∙_}
+use mathlib.Core.List.{List, [], _∷_}
+use mathlib.Core.Path.{_≡_, refl, sym, ap, _∙_}
 use Prim.Native.Nat.{ℕ, _<_, _≤_}
 use native.Mathlib.Omega.{arith}
 use lib.Dec.{eqb}
 use lib.ListN.{length}
+use Rattle.facts.specs.Choice.{pick, both}
+use Rattle.facts.specs.Refusals.{no, firstNo}
+use Rattle.facts.proofs.ChoiceLaws.{pick-has}
 use Rattle.bytes_le.specs.Little.{fieldAt}
+use Rattle.clock.specs.Ticking.{late}
 use Rattle.clock.specs.declared.AdvanceRefusal.the-variants as advance
 use Rattle.mbc3.specs.Registers as mbc3
+use Rattle.mbc3.specs.declared.Mbc3 as mbc3-state
+use Rattle.timer.specs.Advance as timer
 use Rattle.mapper.specs.Mappers as mapper
 use Rattle.mapper.specs.declared.Mapper.{Mapper}
+use Rattle.mapper.specs.declared.Mapper.the-variants.{NoMapper, Mbc1, Mbc2, Mbc3, Mbc5}
+use Rattle.mapper.specs.declared.Advanced as declared
+use Rattle.mapper.specs.declared.Advanced.the-variants as moved
 use Rattle.window.specs.Window as window
 use Rattle.cartridge.specs.Fit.{fitCart, areaOf}
 use Rattle.cartridge.specs.declared.Cartridge.{Cartridge}
+use Rattle.cartridge.specs.With.{withMapper}
 use Rattle.cartridge.proofs.Laws.{fit-board}
 use Rattle.access.specs.Verdict.{noesBy, verdictBy, verdictOf}
 use Rattle.access.specs.declared.Verdict.{Verdict}
@@ -24,13 +34,14 @@ use Rattle.access.specs.declared.BusRefusal.the-variants.{Unfit}
 use Rattle.access.proofs.Laws.{by-tests}
 use Rattle.bus.specs.Bus.{writeVerdict, writeBy, areaBy, writeOf, areaAfter}
 use Rattle.bus.specs.Advance.{advanceOf, fromMapper}
+use Rattle.bus.specs.declared.Advanced.the-variants.{To, Refuse}
 use Rattle.bus.proofs.Laws.{write-answered, area-answered, write-area, unfit-answer, mapper-answer}
 use Rattle.states.specs.Layout.{encodeOf}
 use Rattle.states.specs.Reading.{cartIn, mapperAt, cartAt}
 use Rattle.flat.specs.Kinds.{fitAt}
 use Rattle.states.proofs.Laws.{every-kind, of-kind}
 use Rattle.flat.proofs.Laws.{area-at, unfit-call, fit-cart, fit-call, fit-judged}
-use Rattle.flat_write.specs.Calls.{wroteBy, writeState, wroteOf, stateWritten, areaWritten, passedBy, advanceState, passedOf, stateAdvanced}
+use Rattle.flat_write.specs.Calls.{wroteBy, writeState, wroteOf, stateWritten, areaWritten, passedBy, timed, advanceState, passedOf, stateAdvanced}
 use Rattle.flat_write.specs.declared.Wrote.{Wrote}
 use Rattle.flat_write.specs.declared.Wrote.the-variants as wrote
 use Rattle.flat_write.specs.declared.Passed.{Passed}
@@ -142,6 +153,64 @@ module _ (s ram : List ℕ) (addr byte : ℕ) {k : ℕ} {f : Bool} (p : k ≡ fi
     ),
   )
 
+-- ---- whether there is a timer
+
+pub timed-at : (s : List ℕ) {k : ℕ} {m : Mapper} → k ≡ 5 → m ≡ mapperAt s k → timed m ≡ true
+unfolding mapperAt
+timed-at s e g = ap timed g ∙ ap (λ (i : ℕ). timed (mapperAt s i)) e
+
+pub untimed-at : (s : List ℕ) (k : ℕ) → (k ≡ 5 → ⊥) → timed (mapperAt s k) ≡ false
+untimed-at s =
+    every-kind s (λ (k : ℕ) (m : Mapper). (k ≡ 5 → ⊥) → timed m ≡ false) (λ h. refl) (λ h. refl) (λ h. refl) (λ h. refl) (λ h. refl)
+    (λ h. absurd (h refl)) (λ h. refl) (λ k h. refl)
+
+-- it stays where clocks pass
+pub timed-on : (m : Mapper) (n : ℕ) → timed (mapper.clocksOn m n) ≡ timed m
+unfolding timer.clocksOn
+timed-on (NoMapper m) n = refl
+timed-on (Mbc1 m) n = refl
+timed-on (Mbc2 m) n = refl
+timed-on (Mbc3 m) n = pick-has (λ (x : mbc3-state.Mbc3). x .timer ≡ m .timer) (m .timer) refl refl
+timed-on (Mbc5 m) n = refl
+
+abbrev timedBy : declared.Advanced → Bool
+timedBy (moved.To m) = timed m
+timedBy (moved.Refuse w) = true
+
+pub timed-after : (m : Mapper) (n : ℕ) {next : Mapper} → moved.To next ≡ mapper.advanceOf m n → timed m ≡ true → timed next ≡ true
+unfolding mapper.advanceOf
+timed-after m n e t = ap timedBy e ∙ go (not (mapper.fitRegisters m)) (mapper.late m n)
+  where
+    go : (a b : Bool)
+        → timedBy (firstNo moved.Refuse (no a advance.Unfit ∷ no b advance.Late ∷ []) (moved.To (mapper.clocksOn m n))) ≡ true
+    go true b = refl
+    go false true = refl
+    go false false = timed-on m n ∙ t
+
+-- so the next mapper's bytes are what is left
+pub put-timed : (s : List ℕ) (m : Mapper) (n : ℕ) {next : Mapper} {t : List ℕ} → moved.To next ≡ mapper.advanceOf m n → timed m ≡ true
+    → t ≡ encodeOf (cartIn s next) → t ≡ advanceState s (fromMapper (cartIn s m) (mapper.advanceOf m n))
+put-timed s m n {next} e h p =
+    p ∙ ap (λ (b : Bool). pick b (encodeOf (cartIn s next)) s) (sym (timed-after m n e h))
+    ∙ ap (λ (x : declared.Advanced). advanceState s (fromMapper (cartIn s m) x)) e
+
+-- without one an advance of a fit cartridge is accepted
+untimed-late : (m : Mapper) (n : ℕ) → timed m ≡ false → mapper.late m n ≡ false
+untimed-late (NoMapper m) n e = refl
+untimed-late (Mbc1 m) n e = refl
+untimed-late (Mbc2 m) n e = refl
+untimed-late (Mbc3 m) n e = ap (λ (b : Bool). both b (late (m .clock) n)) e
+untimed-late (Mbc5 m) n e = refl
+
+pub untimed-taken : (c : Cartridge) (n : ℕ) → fitCart c ≡ true → timed (c .mapper) ≡ false
+    → advanceOf c n ≡ To (withMapper c (mapper.clocksOn (c .mapper) n))
+unfolding advanceOf
+untimed-taken c n f e =
+    ap (λ (b : Bool). firstNo Refuse (no (not b) advance.Unfit ∷ no (mapper.late (c .mapper) n) advance.Late ∷ [])
+    (To (withMapper c (mapper.clocksOn (c .mapper) n)))) f
+    ∙ ap (λ (b : Bool). firstNo Refuse (no b advance.Late ∷ []) (To (withMapper c (mapper.clocksOn (c .mapper) n))))
+    (untimed-late (c .mapper) n e)
+
 -- ---- passing clocks
 
 module _ (s : List ℕ) (n : ℕ) {k : ℕ} {f : Bool} (p : k ≡ fieldAt 1 s 0) (q : f ≡ fitAt s k) where
@@ -156,9 +225,20 @@ module _ (s : List ℕ) (n : ℕ) {k : ℕ} {f : Bool} (p : k ≡ fieldAt 1 s 0)
         unfit-call s p q (λ c. advanceState s (advanceOf c n)) s (λ e. ap (advanceState s) (unfit-answer x n e)) h,
       )
 
+  pub fit-still : not f ≡ false → timed (mapperAt s k) ≡ false → Clocked passed.Done s
+  unfolding passedOf stateAdvanced
+  fit-still h e =
+      let c = cartAt s k in
+      let t = untimed-taken c n (fit-cart s p q h) e in (
+        sym (ap passedBy t) ∙ fit-call s p q h (λ c. passedBy (advanceOf c n)) (passed.Refuse advance.Unfit),
+        sym (ap (advanceState s) t ∙ ap (λ (b : Bool). pick b (encodeOf (withMapper c (mapper.clocksOn (c .mapper) n))) s)
+            (timed-on (c .mapper) n ∙ e))
+            ∙ fit-call s p q h (λ c. advanceState s (advanceOf c n)) s,
+      )
+
   module _ (h : not f ≡ false) {m : Mapper} (g : m ≡ mapperAt s k) where
-    moved : fromMapper (cartIn s m) (mapper.advanceOf m n) ≡ advanceOf (cartAt s k) n
-    moved =
+    moved-on : fromMapper (cartIn s m) (mapper.advanceOf m n) ≡ advanceOf (cartAt s k) n
+    moved-on =
         ap (λ (i : Mapper). fromMapper (cartIn s i) (mapper.advanceOf i n)) g
         ∙ mapper-answer (cartAt s k) n (fit-board (cartAt s k) (fit-cart s p q h))
 
@@ -168,6 +248,6 @@ module _ (s : List ℕ) (n : ℕ) {k : ℕ} {f : Bool} (p : k ≡ fieldAt 1 s 0)
         → Clocked r t
     unfolding passedOf stateAdvanced
     fit-clocked e = (
-      e .0 ∙ ap passedBy moved ∙ fit-call s p q h (λ c. passedBy (advanceOf c n)) (passed.Refuse advance.Unfit),
-      e .1 ∙ ap (advanceState s) moved ∙ fit-call s p q h (λ c. advanceState s (advanceOf c n)) s,
+      e .0 ∙ ap passedBy moved-on ∙ fit-call s p q h (λ c. passedBy (advanceOf c n)) (passed.Refuse advance.Unfit),
+      e .1 ∙ ap (advanceState s) moved-on ∙ fit-call s p q h (λ c. advanceState s (advanceOf c n)) s,
     )

@@ -1,8 +1,12 @@
 -- Writes and passing clocks over the bytes of a state: the answer without the cartridge, and the bytes that are left.
+use mathlib.Core.Bool.{Bool, false}
 use mathlib.Core.List.{List}
 use Prim.Native.Nat.{ℕ}
+use Rattle.facts.specs.Choice.{pick}
 use Rattle.access.specs.declared.BusRefusal.the-variants as bus-refusal
 use Rattle.clock.specs.declared.AdvanceRefusal.the-variants as advance-refusal
+use Rattle.mapper.specs.declared.Mapper.{Mapper}
+use Rattle.mapper.specs.declared.Mapper.the-variants.{NoMapper, Mbc1, Mbc2, Mbc3, Mbc5}
 use Rattle.bus.specs.Bus as bus
 use Rattle.bus.specs.Advance as advance
 use Rattle.bus.specs.declared.WriteAnswer.{WriteAnswer}
@@ -45,8 +49,17 @@ abbrev pub passedBy : Advanced → Passed
 passedBy (advanced.To c) = passed.Done
 passedBy (advanced.Refuse w) = passed.Refuse w
 
+-- "Without a timer an advance is accepted and changes nothing.": then the bytes stay as they are, also those that the library would
+-- have written otherwise; else they are the next cartridge's
+abbrev pub timed : Mapper → Bool
+timed (NoMapper m) = false
+timed (Mbc1 m) = false
+timed (Mbc2 m) = false
+timed (Mbc3 m) = m .timer
+timed (Mbc5 m) = false
+
 abbrev pub advanceState : List ℕ → Advanced → List ℕ
-advanceState s (advanced.To c) = encodeOf c
+advanceState s (advanced.To c) = pick (timed (c .mapper)) (encodeOf c) s
 advanceState s (advanced.Refuse w) = s
 
 unfoldable pub passedOf : List ℕ → ℕ → Passed

@@ -10,7 +10,7 @@ ghost use Rattle.bus.specs.Bus as bus;
 ghost use Rattle.bus.specs.Advance as advancing;
 ghost use Rattle.states.specs.Layout.{encodeOf};
 ghost use Rattle.states.specs.Reading.{cartIn, mapperAt, cartAt};
-ghost use Rattle.flat_write.specs.Calls.{wroteBy, writeState, wroteOf, stateWritten, areaWritten, passedBy, advanceState, passedOf, stateAdvanced};
+ghost use Rattle.flat_write.specs.Calls.{wroteBy, writeState, wroteOf, stateWritten, areaWritten, passedBy, timed, advanceState, passedOf, stateAdvanced};
 use access::BusRefusal;
 use access::Verdict;
 use clock::AdvanceRefusal;
@@ -111,6 +111,7 @@ pub fn write(s: &mut [u8; 64], ram: &mut [u8], addr: u16, byte: u8) -> Wrote
 }
 
 fn advance_mapper(s: &mut [u8; 64], m: Mapper, n: u64) -> Passed
+    requires { ⌜ timed m ≡ true ⌝ }
     ensures { λ r. ⌜ r ≡ passedBy (advancing.fromMapper (cartIn (now (s .entry)) m) (mapper.advanceOf m n)) ⌝ }
     ensures { λ _. ⌜ now (s .exit) ≡ advanceState (now (s .entry)) (advancing.fromMapper (cartIn (now (s .entry)) m) (mapper.advanceOf m n)) ⌝ }
 {
@@ -123,7 +124,7 @@ fn advance_mapper(s: &mut [u8; 64], m: Mapper, n: u64) -> Passed
     }
 }
 
-// n mapper clocks on.
+// n mapper clocks on. Only kind 5 has a timer: of any other not a byte changes.
 pub fn advance(s: &mut [u8; 64], n: u64) -> Passed
     ensures { λ r. ⌜ r ≡ passedOf (now (s .entry)) n ⌝ }
     ensures { λ _. ⌜ now (s .exit) ≡ stateAdvanced (now (s .entry)) n ⌝ }
@@ -131,6 +132,9 @@ pub fn advance(s: &mut [u8; 64], n: u64) -> Passed
     let kind = bytes_le::read_u8(s, 0);
     if !flat::fit(s, kind) {
         return Passed::Refuse(AdvanceRefusal::Unfit);
+    }
+    if kind != 5 {
+        return Passed::Done;
     }
     let m = states::mapper_in(s, kind);
     advance_mapper(s, m, n)

@@ -8,6 +8,7 @@ use Rattle.mapper.specs.declared.Advanced.{Advanced}
 use Rattle.bus.specs.Advance.{fromMapper}
 use Rattle.states.specs.Reading.{cartIn}
 use Rattle.flat_write.specs.Calls.{passedBy, advanceState}
+use Rattle.flat_write.proofs.Laws.{put-timed}
 
 advance-requires : tie.Need-advance-requires
 advance-requires c κs = search needs
@@ -28,7 +29,7 @@ returns c =
     let s = now (a .s) in
     let e = sym (c .before .before .before .next .given .1) ∙ d .advance .ensures in (
       ap (λ (x : Advanced). passedBy (fromMapper (cartIn s (a .m)) x)) e,
-      c .put .ensures ∙ ap (λ (x : Advanced). advanceState s (fromMapper (cartIn s (a .m)) x)) e,
+      put-timed s (a .m) (a .n) e (d .before .pre) (c .put .ensures),
     )
 
 returns-2 : tie.Need-returns-2
