@@ -1,0 +1,101 @@
+-- Demand 2 of what ships: an image that `imf_mount` takes, a save that `imf_save_in` takes or none, and any list of reads, writes and
+-- advances through the exported calls. Assumes nothing.
+use Rattle.player.proofs.imf_windows.Reads as imf-windows
+use mathlib.Core.List.{List}
+use mathlib.Core.Option.{Option, none, some}
+use mathlib.Core.Path.{_≡_, sym, ap, _∙_, subst}
+use Prim.Native.Nat.{ℕ}
+use native.Mathlib.Omega.{arith}
+use denote.Ref.{now}
+use Rattle.bytes_le.specs.Little as bytes
+use Rattle.save_file.specs.Admit as admit
+use Rattle.save_file.specs.declared.Loaded.{Loaded}
+use Rattle.bus.specs.Run.{Access, runOf}
+use Rattle.player.specs.Save.{loadedNumber}
+use Rattle.runs.specs.Game.{Game, mountedMachine, answerTo, Accepted, Readable, begins}
+use Rattle.runs.specs.Calls as calls
+use Rattle.runs.proofs.RunLaws.{run-called}
+use Rattle.original_saves.specs.Agrees.{Unseen, CutHarmless}
+use Rattle.original_saves.proofs.Games.{game-agrees}
+use Rattle.player.proofs.imf_mount.Reads as imf-mount
+use Rattle.shipped.specs.Along.{Out, Outs, outs}
+use Rattle.shipped.specs.Sequence.{Kept, callsOf}
+use Rattle.shipped.specs.Ships.{keptOf, Sound}
+use Rattle.shipped.specs.Requests.{Reply, requestOf}
+use Rattle.shipped.specs.Requests as request
+use Rattle.shipped.specs.Agrees.{ShippedAgrees}
+use Rattle.shipped.proofs.Made.{all-made-are}
+use Rattle.shipped.proofs.Shipped.{calls-ship}
+use Rattle.shipped.proofs.Saves.{request-ships, serve-sound, save-some}
+use Rattle.shipped.proofs.Mounted.{mount-leaves}
+use Rattle.shipped.proofs.MadeSaves.{request-is}
+use Rattle.shipped.specs.Through.{Watched}
+use Rattle.shipped.proofs.MadeThrough.{made-through-ships}
+use Rattle.shipped.specs.Made.{Call, AllMade, MadeRequest, AllMadeThrough}
+use Rattle.shipped.specs.Mounted.{watchedBy, MountsBy, keptBy, gameBy}
+
+-- ---- calls on the bytes of a game's beginning
+
+pub game-ships : (g : Game) (file : Option (List ℕ)) → Readable g file → CutHarmless g file → Sound (begins g file)
+    → (accesses : List Access) → calls.Octets accesses → Unseen g file accesses
+    → ShippedAgrees g file accesses (callsOf (g .image) (keptOf (begins g file)) accesses)
+game-ships g file r c h accesses o u =
+    let m = begins g file in
+    let x = runOf (g .image) m accesses in
+    record {
+      answers = x .answers;
+      left = x .left;
+      is = calls-ship (g .image) m h accesses o;
+      agrees = game-agrees g file r c accesses o u (run-called (g .image) m accesses);
+    }
+
+-- ---- calls that were made, each as the contract of its exported function says
+
+-- An `imf_mount` that answered 0, and then `imf_read`, `imf_write` and `imf_advance`, each lent what the one before left.
+pub made-agrees : (c : Call imf-mount.Learnt) (x : MountsBy c) (octets : bytes.Octets (now (c .passed .1 .0)))
+    → (accesses : List Access) → calls.Octets accesses → Unseen (gameBy c x octets) none accesses
+    → {got : Outs ℕ Kept} → AllMade (now (c .passed .1 .0)) (keptBy c) accesses got
+    → ShippedAgrees (gameBy c x octets) none accesses got
+made-agrees c x octets accesses o u made =
+    let g = gameBy c x octets in
+    subst (ShippedAgrees g none accesses)
+    (sym (all-made-are made ∙ ap (λ (k : Kept). callsOf (g .image) k accesses) (mount-leaves c ∙ x .left)))
+    (game-ships g none tt tt (x .sound) accesses o u)
+
+-- The same after an `imf_save_in` at the wall time of the mounting that answered 0: what it leaves is where the game with that file begins.
+loaded-accepted : (r : Loaded) → loadedNumber r ≡ 0 → Accepted r
+loaded-accepted r e w p = omega (arith, ap loadedNumber (sym p) ∙ e, save-some w)
+
+pub made-saved-agrees : (c : Call imf-mount.Learnt) (x : MountsBy c) (octets : bytes.Octets (now (c .passed .1 .0))) (save : List ℕ) (clock : ℕ)
+    → bytes.Octets save → {l : Out Reply Kept} → MadeRequest (now (c .passed .1 .0)) (keptBy c) (request.loads save (c .passed .1 .1 .1 .0) clock) l
+    → l .answer .number ≡ 0 → CutHarmless (gameBy c x octets) (some save) → (accesses : List Access) → calls.Octets accesses
+    → Unseen (gameBy c x octets) (some save) accesses
+    → {got : Outs ℕ Kept} → AllMade (now (c .passed .1 .0)) (l .left) accesses got
+    → ShippedAgrees (gameBy c x octets) (some save) accesses got
+made-saved-agrees c x octets save clock so {l} made e cut accesses o u all =
+    let g = gameBy c x octets in
+    let q = request.loads save (g .wall) clock in
+    let is = request-is made ∙ ap (λ (k : Kept). requestOf (g .image) k q) (mount-leaves c ∙ x .left) ∙ request-ships (g .image) (mountedMachine g) (x .sound) q in
+    let zero = sym (ap (λ (y : Out Reply Kept). y .answer .number) is) ∙ e in
+    subst (ShippedAgrees g (some save) accesses)
+    (sym (all-made-are all ∙ ap (λ (y : Out Reply Kept). callsOf (g .image) (y .left) accesses) is))
+    (game-ships g (some save) (so, loaded-accepted (answerTo (mountedMachine g) save (g .wall)) zero) cut
+    (serve-sound (g .image) (mountedMachine g) (x .sound) q tt) accesses o u)
+
+-- ---- the same through windows
+
+-- An `imf_windows` on what the mounting left, and accesses through them, the state asked where they say so.
+pub made-through-agrees : (c : Call imf-mount.Learnt) (x : MountsBy c) (octets : bytes.Octets (now (c .passed .1 .0)))
+    → (d : Call imf-windows.Learnt) → now (d .passed .0) ≡ keptBy c .state → (accesses : List Access) → calls.Octets accesses
+    → Unseen (gameBy c x octets) none accesses
+    → {got : Outs ℕ Watched} → AllMadeThrough (now (c .passed .1 .0)) (watchedBy c d) accesses got
+    → ShippedAgrees (gameBy c x octets) none accesses (outs (got .answers) (got .left .kept))
+made-through-agrees c x octets d e accesses o u made =
+    let g = gameBy c x octets in
+    let r = runOf (g .image) (mountedMachine g) accesses in
+    record {
+      answers = r .answers;
+      left = r .left;
+      is = ap (λ (y : Outs ℕ Watched). outs (y .answers) (y .left .kept)) (made-through-ships c x d e accesses o made);
+      agrees = game-agrees g none tt tt accesses o u (run-called (g .image) (mountedMachine g) accesses);
+    }

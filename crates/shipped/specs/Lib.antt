@@ -1,0 +1,10 @@
+pub mod Along
+pub mod Sequence
+pub mod Ships
+pub mod Agrees
+pub mod Moves
+pub mod Requests
+pub mod Through
+pub mod AllCalls
+pub mod Made
+pub mod Mounted
