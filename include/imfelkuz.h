@@ -1,6 +1,6 @@
 /*
  * imfelkuz.h: a Game Boy cartridge (header, MBC1, MBC2, MBC3 with its clock, MBC5, save file), for programs in C11 or C++17 that link
- * libplayer.a (Linux on x86-64 or aarch64). Every call is proved to answer as its definition says, for all bytes that it is lent.
+ * libplayer.a (Linux on x86-64 or aarch64).
  *
  *     imf_facts facts;
  *     imf_cart cart;
@@ -10,11 +10,20 @@
  *     imf_cart_write(&cart, 0x0000, 0x0A);                          // 0, or the number of a refusal
  *     uint32_t byte = imf_cart_read(&cart, 0xA000);                 // a byte, or IMF_REFUSED + the number
  *
+ * WHAT IS PROVED, AND WHAT IS TESTED
+ *   Proved: the calls of the library, imf_header to imf_window_write. Each answers, and leaves every lent byte, as its definition says,
+ *   for all bytes that it is lent. docs/PROMISES.md has the definitions, and what is assumed.
+ *   Tested: the inline functions behind them, imf_inline_read to imf_cart_save_in. They are C, and restate proved calls or make them one
+ *   after the other. player/c/test.c compares each with the calls, on drawn accesses. imf_words, the last, only has words.
+ *
  * WHAT IS LENT, AND WHAT STAYS
  *   The image, the RAM area, the save and the 64 bytes of the state are the caller's. Each call is lent them until it returns; the
  *   library keeps no pointer, allocates nothing, opens nothing and has no variable of its own. So calls on different cartridges may run
  *   in different threads; calls on one cartridge must not overlap in time, unless all of them only read.
- *   A refused call has changed no lent byte. A call that answers changes what its comment names and nothing else.
+ *   A refused call has changed no lent byte. A call that answers changes what its comment names and nothing else, but for bytes of a
+ *   state that its kind does not use. They are not looked at, and are 0 in a state that the library wrote. Where a caller put something
+ *   else there, an accepted imf_write makes them 0, also one that changes RAM or nothing; so do an imf_advance with a timer and an
+ *   imf_save_in that brings a clock. An imf_advance without a timer, and a write through windows, leave the state as it is.
  *
  * WHAT A CALLER HAS TO KEEP
  *   1. No pointer is NULL, also where its length is 0. Behind a pointer with a length stand that many bytes, and the others point to
@@ -40,7 +49,7 @@
  *    10  IMF_UNSUPPORTED      the type is MMM01, MBC6 or MBC7
  *    11  IMF_BEYOND           there are more banks, or more RAM, than the mapper can have
  *    12  IMF_WRONG_AREA       the lent RAM area is not as long as the header asks
- *    13  IMF_UNFIT            the 64 bytes are no state that the library can have written
+ *    13  IMF_UNFIT            the 64 bytes are no state or an unfit one: the list below
  *    14  IMF_WRONG_LENGTH     the image or the RAM area is not as long as the mounted one
  *    15  IMF_BAD_ADDRESS      the address is outside 0x0000 to 0x7FFF and 0xA000 to 0xBFFF
  *    16  IMF_BAD_SELECTION    an MBC3 is asked to select 4 to 7 or 0xD to 0xF (the low four bits)
@@ -51,6 +60,25 @@
  *    21  IMF_SHORT_ROOM       the room for the save is too short
  *    22  IMF_UNKNOWN_MARK     a trace has two bytes that are no mark   (for readers of traces; no call here gives it)
  *    23  IMF_CUT_SHORT        a trace ends within a record             (the same)
+ *
+ * NUMBER 13
+ *   The 64 bytes are no state where
+ *     - the kind is above 6, or
+ *     - a flag that the kind uses is neither 0 nor 1: the battery; but for no mapper, whether RAM is enabled; of MBC1 the mode; of MBC3
+ *       whether RAM is selected; with a timer the latch, and halt and carry of the clock and of its frozen copy.
+ *   They are an unfit one where
+ *     - the bank count is no power of two from 2 to the mapper's limit: 2 without a mapper, 128 for MBC1 (multicart: exactly 64), 16 for
+ *       MBC2, 256 for MBC3, 512 for MBC5,
+ *     - the image's length, padded to at least 0x8000 and up to a multiple of 0x4000, is not that many banks of 0x4000,
+ *     - the RAM size is none of 0, 0x800, 0x2000, 0x8000, 0x10000 and 0x20000, or without a mapper above 0x2000,
+ *     - MBC1: the low register is outside 1 to 31 (multicart: above 15), or the two-bit register above 3,
+ *     - MBC2: the ROM bank is outside 1 to 15,
+ *     - MBC3: the ROM bank is outside 1 to 255, or the RAM bank above 3; with a timer also where the selected clock register is above 4,
+ *       the sub-second above 2,097,151, or of the clock or its frozen copy a second or minute above 63, an hour above 31 or a day above
+ *       511,
+ *     - MBC5: the ROM bank is above 511, or the RAM bank above 15.
+ *   Fields that the kind does not use (with no timer, the clock and its selection) are not looked at. So more is taken than the library
+ *   writes; what it writes is always taken.
  */
 #ifndef IMFELKUZ_H
 #define IMFELKUZ_H
@@ -102,7 +130,7 @@ enum imf_number {
 #define IMF_CLOCK_BLOCK 21u
 
 /* A mounted cartridge. The bytes may be copied, compared, kept in a file and lent again; what is in them is the library's. The same
- * cartridge is always the same 64 bytes. */
+ * cartridge is always the same 64 bytes, as the library writes it. */
 #define IMF_STATE_SIZE 64
 typedef struct imf_state {
     uint8_t bytes[IMF_STATE_SIZE];
@@ -143,15 +171,18 @@ enum imf_how {
 };
 
 /* Where the windows stand. Only a write below 0x8000 and a save that is read move them: after either, ask imf_windows again. Whatever
- * the numbers are, no call over windows touches a byte that was not lent. (The _t keeps the type apart from the call.) */
+ * the numbers are, no call over windows touches a byte that was not lent: a place past the image's end reads 0; one past the RAM area's
+ * end reads 0xFF, and a write there answers 0 and writes nothing. (The _t keeps the type apart from the call.) */
 typedef struct imf_windows_t {
-    uint32_t rom0; /* the place in the image that 0x0000 shows; past the image's end 0 is read */
+    uint32_t rom0; /* the place in the image that 0x0000 shows */
     uint32_t romx; /* the place in the image that 0x4000 shows */
     uint32_t ram;  /* the place in the RAM area that 0xA000 shows */
     uint32_t mask; /* the address bits that move on from there */
     uint32_t how;  /* enum imf_how */
     uint32_t reserved;
 } imf_windows_t;
+
+/* ---- The calls of the library: proved. ---- */
 
 /* Reads the header. Answers 0 and fills the facts, or refuses with 1 to 11, in this order. Only the header is read, and of a possible
  * multicart three more logos: the cost does not grow with the image. */
@@ -165,11 +196,11 @@ uint32_t imf_mount(imf_state *state, const uint8_t *image, size_t image_len, uin
 uint32_t imf_read(const imf_state *state, const uint8_t *image, size_t image_len, const uint8_t *ram, size_t ram_len, uint16_t addr);
 
 /* Writes a byte: below 0x8000 to the mapper's registers, from 0xA000 on to one byte of the RAM area or a clock register. What is not
- * mapped takes nothing and is no refusal. Refuses with 13, 14 (RAM), 15, 16. */
+ * mapped takes nothing and is no refusal. Bytes of the state that its kind does not use become 0. Refuses with 13, 14 (RAM), 15, 16. */
 uint32_t imf_write(imf_state *state, uint8_t *ram, size_t ram_len, uint16_t addr, uint8_t byte);
 
-/* Lets mapper clocks pass, IMF_CLOCKS_PER_SECOND of them in a second; only a timer's clock shows it. It costs the same for one clock and
- * for 2^64 - 1 of them. Refuses with 13, 17. */
+/* Lets mapper clocks pass, IMF_CLOCKS_PER_SECOND of them in a second. Only a timer's clock moves; without one no byte changes. It costs
+ * the same for one clock and for 2^64 - 1 of them. Refuses with 13, 17. */
 uint32_t imf_advance(imf_state *state, uint64_t clocks);
 
 /* How many bytes the save has: the RAM area, and IMF_CLOCK_BLOCK for a timer. Refuses with 13, 18. */
@@ -180,9 +211,13 @@ uint32_t imf_save_size(const imf_state *state, uint64_t *size);
 uint32_t imf_save_out(const imf_state *state, const uint8_t *ram, size_t ram_len, uint8_t *room, size_t room_len, uint64_t wall,
                       uint64_t *size);
 
-/* Reads a save, at any time after mounting. *clock becomes 1 where the timer's clock came with it and has caught up with `wall`, and 0
- * where only the RAM did: without a timer, or with fewer than IMF_CLOCK_BLOCK bytes behind the RAM. Later bytes are ignored. Refuses with
- * 13, 14 (RAM), 18, 19, 20, 17, in this order. */
+/* Reads a save, at any time after mounting: the RAM area becomes the save's. Later bytes are ignored.
+ * *clock becomes 0 where that is all: without a timer, or with fewer than IMF_CLOCK_BLOCK bytes behind the RAM. The state then stays.
+ * *clock becomes 1 where the timer's clock came too. It is then the save's: its time becomes `wall` plus the saved offset; second,
+ * minute, hour and day are the saved ones; halt, carry, sub-second, latch and frozen copy are cleared. Then second, minute, hour and day
+ * step by the time that passed: the new time minus the saved one, in seconds, or 0 if that is negative. Where the day goes from 511 to 0
+ * the carry is set. The mapper's registers stay.
+ * Refuses with 13, 14 (RAM), 18, 19, 20, 17, in this order. */
 uint32_t imf_save_in(imf_state *state, uint8_t *ram, size_t ram_len, const uint8_t *save, size_t save_len, uint64_t wall,
                      uint32_t *clock);
 
@@ -190,33 +225,37 @@ uint32_t imf_save_in(imf_state *state, uint8_t *ram, size_t ram_len, const uint8
 uint32_t imf_windows(const imf_state *state, imf_windows_t *windows);
 
 /* What an address reads through windows: the byte, IMF_REFUSED + IMF_BAD_ADDRESS, or IMF_ASK: then ask imf_read. With the windows of a
- * state, and the image and RAM area that it was mounted with, the byte is what imf_read gives. */
+ * state, and the image and RAM area that it was mounted with, the byte is what imf_read gives. A place past the image's end reads 0, one
+ * past the RAM area's end 0xFF. */
 uint32_t imf_window_read(const imf_windows_t *windows, const uint8_t *image, size_t image_len, const uint8_t *ram, size_t ram_len,
                          uint16_t addr);
 
 /* Writes a byte through windows: 0 where it is done, IMF_BAD_ADDRESS, or IMF_ASK (a register, of the mapper or of the clock): then ask
- * imf_write. */
+ * imf_write. Where nothing is mapped, and past the RAM area's end, the answer is 0 and nothing is written. */
 uint32_t imf_window_write(const imf_windows_t *windows, uint8_t *ram, size_t ram_len, uint16_t addr, uint8_t byte);
 
 #ifdef __cplusplus
 }
 #endif
 
-/* ---- The rest needs no library: the same windows for the compiler to put into the caller's loop. ---- */
+/* ---- Inline from here on: not proved, but compared with the calls above by running. The first two need no library: they are the same
+ * windows for the compiler to put into the caller's loop. ---- */
 
 /* As imf_window_read. */
 static inline uint32_t imf_inline_read(const imf_windows_t *windows, const uint8_t *image, size_t image_len, const uint8_t *ram,
                                        size_t ram_len, uint16_t addr)
 {
     if (addr < 0x8000u) {
-        size_t at = (size_t)(addr < 0x4000u ? windows->rom0 : windows->romx) + (addr & 0x3FFFu);
+        size_t at = addr < 0x4000u ? windows->rom0 : windows->romx;
+        at += addr & 0x3FFFu;
         return at < image_len ? image[at] : 0u;
     }
     if ((addr & 0xE000u) == 0xA000u) {
         if (windows->how == IMF_NOT_MAPPED)
             return 0xFFu;
         if (windows->how <= IMF_HALF_BYTES) {
-            size_t at = (size_t)windows->ram + (addr & windows->mask);
+            size_t at = windows->ram;
+            at += addr & windows->mask;
             uint32_t byte = at < ram_len ? ram[at] : 0xFFu;
             return windows->how == IMF_BYTES ? byte : byte | 0xF0u;
         }
@@ -234,9 +273,12 @@ static inline uint32_t imf_inline_write(const imf_windows_t *windows, uint8_t *r
         if (windows->how == IMF_NOT_MAPPED)
             return 0u;
         if (windows->how <= IMF_HALF_BYTES) {
-            size_t at = (size_t)windows->ram + (addr & windows->mask);
+            size_t at = windows->ram;
+            at += addr & windows->mask;
+            if (windows->how == IMF_HALF_BYTES)
+                byte &= 0x0Fu;
             if (at < ram_len)
-                ram[at] = windows->how == IMF_BYTES ? byte : (uint8_t)(byte & 0x0Fu);
+                ram[at] = byte;
             return 0u;
         }
         return IMF_ASK;
@@ -332,10 +374,13 @@ static inline uint32_t imf_cart_save_in(imf_cart *cart, const uint8_t *save, siz
     return imf_windows(&cart->state, &cart->windows);
 }
 
-/* A number in words. 0 and numbers that are none have words too. */
-static inline const char *imf_words(uint32_t number)
+/* A refusal in words: of its number, or of what a read answered (IMF_REFUSED + the number). 0, IMF_ASK and numbers that are none have
+ * words too. A byte that was read is no number: test first that the answer is not below IMF_REFUSED. */
+static inline const char *imf_words(uint32_t answer)
 {
-    switch (number) {
+    if (answer == IMF_ASK)
+        return "no refusal: the windows cannot say, the state can";
+    switch (answer > IMF_REFUSED ? answer - IMF_REFUSED : answer) {
     case 0: return "no refusal";
     case IMF_TOO_LONG: return "the image is longer than 8 MiB";
     case IMF_BAD_LOGO: return "the logo is not in the header";

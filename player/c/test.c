@@ -1,10 +1,17 @@
 /* The header and the library from C: the rules' trace on a cartridge made here, the refusals that C can meet, guard bytes around what is lent,
- * and the inline windows against the calls. The same file is compiled as C11 and as C++17. Prints the trace's text and a count of checks. */
+ * and every inline function against the call that it restates. The same file is compiled as C11 and as C++17. Prints the trace's text and a count of checks. */
 #include "imfelkuz.h"
 
 #include <stdio.h>
 #include <stdlib.h>
 #include <string.h>
+
+/* A cast in the words of either language. */
+#ifdef __cplusplus
+#define AS(type, value) static_cast<type>(value)
+#else
+#define AS(type, value) ((type)(value))
+#endif
 
 static unsigned long checks;
 
@@ -35,17 +42,17 @@ static void checksum(uint8_t *image)
 {
     uint8_t sum = 0;
     for (size_t i = 0x134; i <= 0x14C; i++)
-        sum = (uint8_t)(sum - image[i] - 1);
+        sum = AS(uint8_t, sum - image[i] - 1);
     image[0x14D] = sum;
 }
 
 /* An image with a header; every byte else is drawn. */
 static uint8_t *image_of(size_t len, uint8_t type, uint8_t rom_code, uint8_t ram_code)
 {
-    uint8_t *image = (uint8_t *)malloc(len);
+    uint8_t *image = AS(uint8_t *, malloc(len));
     CHECK(image != NULL);
     for (size_t i = 0; i < len; i++)
-        image[i] = (uint8_t)(drawn() >> 24);
+        image[i] = AS(uint8_t, drawn() >> 24);
     memset(image + 0x134, 0, 0x1A);
     memcpy(image + 0x104, logo, sizeof logo);
     memcpy(image + 0x134, "IMFELKUZ", 8);
@@ -61,7 +68,7 @@ enum { GUARD = 16, GUARD_BYTE = 0xA5 };
 
 static uint8_t *guarded(size_t len)
 {
-    uint8_t *all = (uint8_t *)malloc(len + 2 * GUARD);
+    uint8_t *all = AS(uint8_t *, malloc(len + 2 * GUARD));
     CHECK(all != NULL);
     memset(all, GUARD_BYTE, len + 2 * GUARD);
     return all + GUARD;
@@ -70,7 +77,7 @@ static uint8_t *guarded(size_t len)
 static void check_guards(const uint8_t *bytes, size_t len)
 {
     for (size_t i = 0; i < GUARD; i++) {
-        CHECK(bytes[(ptrdiff_t)i - GUARD] == GUARD_BYTE);
+        CHECK(bytes[AS(ptrdiff_t, i) - GUARD] == GUARD_BYTE);
         CHECK(bytes[len + i] == GUARD_BYTE);
     }
 }
@@ -114,28 +121,28 @@ static void replay(imf_cart *cart, const uint8_t *trace, size_t len)
         if (left < size)
             break;
         if (size == 6) {
-            uint32_t clocks = body[0] | (uint32_t)body[1] << 8 | (uint32_t)body[2] << 16 | (uint32_t)body[3] << 24;
+            uint32_t clocks = body[0] | AS(uint32_t, body[1]) << 8 | AS(uint32_t, body[2]) << 16 | AS(uint32_t, body[3]) << 24;
             answer = imf_cart_advance(cart, clocks);
-            snprintf(line, sizeof line, "C %lu\n", (unsigned long)clocks);
+            snprintf(line, sizeof line, "C %lu\n", AS(unsigned long, clocks));
         } else {
-            uint16_t addr = (uint16_t)(body[0] | body[1] << 8);
+            uint16_t addr = AS(uint16_t, body[0] | body[1] << 8);
             if (size == 4) {
                 answer = imf_cart_read(cart, addr);
-                snprintf(line, sizeof line, "R %04X %02X\n", (unsigned)addr, (unsigned)(answer & 0xFF));
+                snprintf(line, sizeof line, "R %04X %02X\n", AS(unsigned, addr), AS(unsigned, answer & 0xFF));
                 answer = answer < IMF_REFUSED ? 0 : answer - IMF_REFUSED;
             } else {
                 answer = imf_cart_write(cart, addr, body[2]);
-                snprintf(line, sizeof line, "W %04X %02X\n", (unsigned)addr, (unsigned)body[2]);
+                snprintf(line, sizeof line, "W %04X %02X\n", AS(unsigned, addr), AS(unsigned, body[2]));
             }
         }
         if (answer != 0)
-            snprintf(line, sizeof line, "X %u\n", (unsigned)answer);
+            snprintf(line, sizeof line, "X %u\n", AS(unsigned, answer));
         say(line);
         records++;
         at += size;
     }
     if (at < len)
-        snprintf(line, sizeof line, "T %lu\n", (unsigned long)at);
+        snprintf(line, sizeof line, "T %lu\n", AS(unsigned long, at));
     else
         line[0] = 0;
     say(line);
@@ -211,7 +218,7 @@ static void spoilt(size_t at, uint8_t byte, int fix, uint32_t number)
 
 static void refusals(void)
 {
-    uint8_t *image = (uint8_t *)calloc(IMF_IMAGE_MAX + 1, 1);
+    uint8_t *image = AS(uint8_t *, calloc(IMF_IMAGE_MAX + 1, 1));
     CHECK(image != NULL);
     refused_image(image, IMF_IMAGE_MAX + 1, IMF_TOO_LONG);
     refused_image(image, 0, IMF_BAD_LOGO);
@@ -278,9 +285,128 @@ static void refusals(void)
     release(room, 0x2015);
     release(ram, 0x2000);
     free(image);
-    for (uint32_t n = 0; n <= 24; n++)
+}
+
+/* Each number has words of its own, and the answer of a refused read has its number's. */
+static void words(void)
+{
+    static const uint32_t none[] = {0xFF, 0x100, 0x118, 0x1FF, 0x201, 0x20F, 0xFFFFFFFFu};
+    for (uint32_t n = 0; n <= 24; n++) {
+        CHECK(strcmp(imf_words(n), imf_words(IMF_ASK)) != 0);
         for (uint32_t m = 0; m < n; m++)
             CHECK(strcmp(imf_words(n), imf_words(m)) != 0);
+    }
+    for (uint32_t n = 1; n <= 23; n++)
+        CHECK(strcmp(imf_words(IMF_REFUSED + n), imf_words(n)) == 0);
+    for (size_t i = 0; i < sizeof none / sizeof none[0]; i++)
+        CHECK(strcmp(imf_words(none[i]), imf_words(24)) == 0);
+}
+
+/* Windows whose place is beyond what is lent: RAM reads 0xFF and takes nothing, which is no refusal; the image reads 0. */
+static void beyond(void)
+{
+    uint8_t *image = guarded(16), *ram = guarded(16);
+    memset(image, 0x11, 16);
+    memset(ram, 0x22, 16);
+    for (uint32_t how = IMF_BYTES; how <= IMF_HALF_BYTES; how++) {
+        imf_windows_t windows = {0, 8, 8, 0x1FFF, 0, 0};
+        windows.how = how;
+        CHECK(imf_window_read(&windows, image, 16, ram, 16, 0xA008) == 0xFF);
+        CHECK(imf_inline_read(&windows, image, 16, ram, 16, 0xA008) == 0xFF);
+        CHECK(imf_window_write(&windows, ram, 16, 0xA008, 0x55) == 0);
+        CHECK(imf_inline_write(&windows, ram, 16, 0xA008, 0x55) == 0);
+        CHECK(imf_window_read(&windows, image, 16, ram, 16, 0xA007) == (how == IMF_BYTES ? 0x22u : 0xF2u));
+        CHECK(imf_window_read(&windows, image, 16, ram, 16, 0x4007) == 0x11);
+        CHECK(imf_window_read(&windows, image, 16, ram, 16, 0x4008) == 0);
+        CHECK(imf_inline_read(&windows, image, 16, ram, 16, 0x0010) == 0);
+    }
+    for (size_t i = 0; i < 16; i++)
+        CHECK(ram[i] == 0x22);
+    release(image, 16);
+    release(ram, 16);
+}
+
+/* A save that is read: the clock is the save's, whatever this one's was, and has stepped by the time that passed. */
+static void woken(void)
+{
+    uint8_t *image = image_of(0x8000, 0x0F, 0, 0);
+    uint8_t *ram = guarded(0);
+    uint8_t room[IMF_CLOCK_BLOCK];
+    imf_cart fresh, used;
+    imf_state before;
+    uint64_t size = 0;
+    uint32_t clock = 7;
+    CHECK(imf_cart_mount(&fresh, image, 0x8000, ram, 0, 100) == 0);
+    CHECK(imf_cart_write(&fresh, 0xA000, 58) == 0);
+    CHECK(imf_cart_save_out(&fresh, room, sizeof room, 100, &size) == 0 && size == IMF_CLOCK_BLOCK);
+
+    /* Within a second, halted, with a carry and a day, and frozen. */
+    CHECK(imf_cart_mount(&used, image, 0x8000, ram, 0, 7) == 0);
+    CHECK(imf_cart_advance(&used, IMF_CLOCKS_PER_SECOND - 1) == 0);
+    CHECK(imf_cart_write(&used, 0x4000, 0x0C) == 0 && imf_cart_write(&used, 0xA000, 0xC1) == 0);
+    CHECK(imf_cart_write(&used, 0x6000, 1) == 0 && imf_cart_write(&used, 0x4000, 0x08) == 0);
+    before = used.state;
+    CHECK(imf_cart_save_in(&used, room, sizeof room - 1, 103, &clock) == 0 && clock == 0);
+    CHECK(memcmp(&used.state, &before, sizeof before) == 0);
+    CHECK(imf_cart_save_in(&used, room, sizeof room, 103, &clock) == 0 && clock == 1);
+    CHECK(imf_cart_mount(&fresh, image, 0x8000, ram, 0, 100) == 0);
+    CHECK(imf_cart_save_in(&fresh, room, sizeof room, 103, &clock) == 0 && clock == 1);
+    CHECK(memcmp(&used.state, &fresh.state, sizeof before) == 0);
+
+    CHECK(imf_cart_read(&used, 0xA000) == 1);
+    CHECK(imf_cart_write(&used, 0x4000, 0x09) == 0 && imf_cart_read(&used, 0xA000) == 1);
+    CHECK(imf_cart_write(&used, 0x4000, 0x0C) == 0 && imf_cart_read(&used, 0xA000) == 0);
+    CHECK(imf_cart_write(&used, 0x4000, 0x08) == 0);
+    CHECK(imf_cart_advance(&used, IMF_CLOCKS_PER_SECOND - 1) == 0 && imf_cart_read(&used, 0xA000) == 1);
+    CHECK(imf_cart_advance(&used, 1) == 0 && imf_cart_read(&used, 0xA000) == 2);
+    release(ram, 0);
+    free(image);
+}
+
+/* Bytes of a state that its kind does not use are not looked at, and are 0 again where an accepted call writes the state. */
+static void unused(void)
+{
+    uint8_t *image = image_of(0x8000, 0x00, 0, 0);
+    uint8_t *ram = guarded(0);
+    imf_state state, other, changed;
+    imf_cart cart;
+    CHECK(imf_mount(&state, image, 0x8000, ram, 0, 0) == 0);
+    changed = state;
+    changed.bytes[IMF_STATE_SIZE - 1] = 7;
+    other = changed;
+    CHECK(imf_write(&other, ram, 0, 0xA000, 1) == 0 && memcmp(&other, &state, sizeof state) == 0);
+    other = changed;
+    CHECK(imf_write(&other, ram, 0, 0x2000, 1) == 0 && memcmp(&other, &state, sizeof state) == 0);
+    other = changed;
+    CHECK(imf_write(&other, ram, 0, 0x8000, 1) == IMF_BAD_ADDRESS && memcmp(&other, &changed, sizeof state) == 0);
+    CHECK(imf_advance(&other, 5) == 0 && memcmp(&other, &changed, sizeof state) == 0);
+    CHECK(imf_cart_resume(&cart, &changed, image, 0x8000, ram, 0) == 0);
+    CHECK(imf_cart_write(&cart, 0xA000, 1) == 0 && memcmp(&cart.state, &changed, sizeof state) == 0);
+    CHECK(imf_cart_write(&cart, 0x2000, 1) == 0 && memcmp(&cart.state, &state, sizeof state) == 0);
+    release(ram, 0);
+    free(image);
+}
+
+/* The save by the cart and by the calls, out, and in again a while later, with a byte of RAM changed in it. */
+static void saves_agree(imf_cart *cart, imf_state *state, uint8_t *other)
+{
+    size_t area = cart->ram_len, most = area + IMF_CLOCK_BLOCK;
+    uint8_t *room = guarded(most), *second = guarded(most);
+    uint64_t size = 7, sized = 7;
+    uint32_t clock = 7, clocked = 7;
+    imf_windows_t windows;
+    uint32_t number = imf_save_size(state, &size);
+    CHECK(imf_cart_save_size(cart, &sized) == number && sized == size);
+    number = imf_save_out(state, other, area, room, most, 3, &size);
+    CHECK(imf_cart_save_out(cart, second, most, 3, &sized) == number && sized == size && memcmp(room, second, most) == 0);
+    if (area > 0)
+        room[area - 1] ^= 1;
+    number = imf_save_in(state, other, area, room, most, 1003, &clock);
+    CHECK(imf_cart_save_in(cart, room, most, 1003, &clocked) == number && clocked == clock);
+    CHECK(memcmp(&cart->state, state, sizeof *state) == 0 && memcmp(cart->ram, other, area) == 0);
+    CHECK(imf_windows(state, &windows) == 0 && memcmp(&windows, &cart->windows, sizeof windows) == 0);
+    release(room, most);
+    release(second, most);
 }
 
 /* Registers and RAM written by chance: the inline windows, the calls over windows, the cart and the state agree on every address asked, and
@@ -297,12 +423,12 @@ static void windows_agree(size_t len, uint8_t type, uint8_t rom_code, uint8_t ra
     CHECK(imf_cart_mount(&cart, image, len, ram, area, 5) == 0);
     CHECK(imf_mount(&state, image, len, other, area, 5) == 0);
     for (unsigned i = 0; i < rounds; i++) {
-        uint16_t addr = (uint16_t)(drawn() >> 16);
-        uint8_t byte = (uint8_t)(drawn() >> 24);
+        uint16_t addr = AS(uint16_t, drawn() >> 16);
+        uint8_t byte = AS(uint8_t, drawn() >> 24);
         if (i % 3 == 0)
             addr &= 0x7FFF;
         else if (i % 3 == 1)
-            addr = (uint16_t)(0xA000 | (addr & 0x1FFF));
+            addr = AS(uint16_t, 0xA000 | (addr & 0x1FFF));
         if (addr < 0x2000 && i % 5 != 0)
             byte = 0x0A;
         if (drawn() % 2) {
@@ -325,11 +451,12 @@ static void windows_agree(size_t len, uint8_t type, uint8_t rom_code, uint8_t ra
     CHECK(imf_cart_resume(&resumed, &cart.state, image, len, ram, area) == 0);
     CHECK(memcmp(&resumed.windows, &cart.windows, sizeof cart.windows) == 0);
     CHECK(imf_cart_resume(&resumed, &cart.state, image, len - 1, ram, area) == IMF_WRONG_LENGTH);
+    saves_agree(&cart, &state, other);
     /* Any numbers as windows, with what is lent at its shortest. */
     for (unsigned i = 0; i < rounds; i++) {
         imf_windows_t wild;
-        uint16_t addr = (uint16_t)(drawn() >> 16);
-        uint8_t byte = (uint8_t)(drawn() >> 24);
+        uint16_t addr = AS(uint16_t, drawn() >> 16);
+        uint8_t byte = AS(uint8_t, drawn() >> 24);
         wild.rom0 = drawn() >> (drawn() % 32);
         wild.romx = drawn() >> (drawn() % 32);
         wild.ram = drawn() >> (drawn() % 32);
@@ -350,6 +477,10 @@ int main(void)
     trace();
     facts();
     refusals();
+    words();
+    beyond();
+    woken();
+    unused();
     windows_agree(0x7001, 0x08, 0, 1, 2000);
     windows_agree(0x8000, 0x09, 0, 2, 2000);
     windows_agree(0x8000, 0x00, 0, 0, 2000);

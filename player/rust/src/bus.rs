@@ -12,7 +12,8 @@ type Halves = [Cell<u8>; 0x200];
 const RAM: u16 = 5;
 
 /// A [`Cartridge`](crate::Cartridge) lent out for a run of accesses, by [`bus`](crate::Cartridge::bus): a frame's worth, say. It
-/// answers as the cartridge does, and faster, because where each 8 KiB of addresses lead is looked up beforehand.
+/// answers as the cartridge does, and faster, because where each 8 KiB of addresses lead is looked up beforehand. That it does is
+/// compared by running, not proved.
 ///
 /// ```
 /// # fn frame(cart: &mut imfelkuz::Cartridge) -> Result<(), imfelkuz::Refusal> {

@@ -1,5 +1,5 @@
-//! A Game Boy cartridge: its header, the mappers MBC1, MBC2, MBC3 with its clock and MBC5, and the save file. The work is done by
-//! `libplayer.a`, in which every call is proved to answer as its definition says, for every image, state, clock count and save.
+//! A Game Boy cartridge: its header, the mappers MBC1, MBC2, MBC3 with its clock and MBC5, and the save file, over `libplayer.a`, whose
+//! calls are proved.
 //!
 //! A [`Cartridge`] owns its image and its RAM. It is read and written by address, as the console's bus does:
 //!
@@ -35,6 +35,17 @@
 //! Reads and RAM writes go through the cartridge's windows, which this crate keeps and asks for again after each register write: a
 //! few instructions in the caller's loop, and the fewest by way of [`Cartridge::bus`]. All else is a call into the library. No call
 //! panics, whatever the image, the save or the state holds; a refused one changes nothing.
+//!
+//! # What is proved, and what is tested
+//!
+//! | Group | It is | Held by |
+//! |---|---|---|
+//! | the library's calls, in [`sys`] as functions over slices | Rattle | proofs: each answers, and leaves every lent byte, as its definition says, for every image, state, address, byte, clock count and save |
+//! | [`Facts::of`] and of [`Cartridge`] `mount`, `from_parts`, `advance`, `save_size`, `save`, `save_into` and `load`, of [`Bus`] `advance` | Rust that makes such a call, or a few, and hands on the answer | tests |
+//! | of [`Cartridge`] and of [`Bus`] `read`, `byte` and `write` | Rust that restates the proved reads and writes through windows, and calls the library where these cannot say | tests, which compare each with the proved calls on drawn states of every kind |
+//! | [`trace`] and [`Refusal`] | Rust that restates the rules' records, numbers and words | tests |
+//!
+//! `docs/PROMISES.md` of the repository has the definitions, and what is assumed.
 //!
 //! The library is for Linux on x86-64 and on aarch64: `make player` builds both. The environment variable `IMFELKUZ_LIB` names its folder
 //! where that is not `target/library/x86_64` or `target/library/aarch64` of the same repository.
@@ -138,6 +149,8 @@ pub enum Loaded {
 }
 
 /// A mounted cartridge, with its image and RAM.
+///
+/// Its reads and RAM writes are compared with the proved calls by running, not proved; the rest hands on the library's answers.
 #[derive(Clone)]
 pub struct Cartridge {
     image: Vec<u8>,
@@ -206,7 +219,8 @@ impl Cartridge {
 
     /// A cartridge again from what [`into_parts`](Cartridge::into_parts) gave, or from bytes that were kept elsewhere.
     ///
-    /// Refuses what is no image (1 to 11), bytes that are no state (13), and an image or RAM that is not as long as the state's (14).
+    /// Refuses what is no image (1 to 11), bytes that are no state or an unfit one (13), and an image or RAM that is not as long as the
+    /// state's (14).
     /// Whether the bytes were written for this image, and not for another of the same length, is the caller's to know: either is safe.
     pub fn from_parts(image: impl Into<Vec<u8>>, ram: impl Into<Vec<u8>>, state: State) -> Result<Cartridge, Refusal> {
         let (image, ram) = (image.into(), ram.into());
@@ -362,8 +376,10 @@ impl Cartridge {
         Ok(size as usize)
     }
 
-    /// Reads a save at this wall time. A timer's clock catches up with the time since it was written, its registers and all; bytes
-    /// behind the save are ignored.
+    /// Reads a save at this wall time; bytes behind it are ignored.
+    ///
+    /// A timer's clock becomes the save's: its time is the wall time plus the saved offset; halt, carry, sub-second, latch and frozen copy
+    /// are cleared; second, minute, hour and day are the saved ones, and then step by the time that passed since they were saved.
     ///
     /// Refuses a cartridge without a battery (18), a save shorter than the RAM (19), a clock block beyond its registers (20) and one
     /// whose time has no room (17).

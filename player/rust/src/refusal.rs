@@ -32,7 +32,7 @@ pub enum Refusal {
     Beyond = 11,
     /// The RAM area is not as long as the header asks.
     WrongArea = 12,
-    /// The 64 bytes are no state that the library can have written.
+    /// The 64 bytes are no state, or an unfit one. `include/imfelkuz.h` has the list, under "NUMBER 13".
     Unfit = 13,
     /// The image or the RAM area is not as long as the mounted one.
     WrongLength = 14,

@@ -1,5 +1,5 @@
-//! The library's calls, as `include/imfelkuz.h` declares them, and for each a safe function over slices. This is the crate's only
-//! unsafe module.
+//! The library's calls, as `include/imfelkuz.h` declares them, and for each a safe function over slices. The calls are proved; the
+//! functions here only lend them their arguments. This is the crate's only unsafe module.
 //!
 //! A slice is a pointer and a length behind it, which is all that the library asks: pointers that are not null, memory that is there,
 //! and no overlap with what it writes. References and slices of Rust are always so, whatever bytes stand in them.
