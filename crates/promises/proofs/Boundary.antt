@@ -1,13 +1,19 @@
 -- What a player gets that keeps a cartridge as bytes. The theorems speak of `stateMounted`, `writeOf`, `stateWritten` and the like: the
 -- contracts of `imf_mount`, `imf_write` and so on say that their answers, and every lent byte, equal these on all inputs. Assumes
 -- nothing.
+use Rattle.header.specs.declared.Checked.the-variants as checked
+use Rattle.header.specs.declared.Checked.{Checked}
+use Rattle.header.specs.Check.{checkOf}
+use Rattle.facts.proofs.ChoiceLaws.{pick-has, both-left}
+use borrow.Author.Tests.{ltb-true, leb-true}
+use lib.Dec.{ltb, leb}
 use mathlib.Core.Bool.{Bool, true, false}
-use mathlib.Core.List.{List}
+use mathlib.Core.List.{List, [], _∷_}
 use mathlib.Core.Logic.{_⊎_, inl, inr}
 use mathlib.Core.Path.{_≡_, refl, sym, ap, _∙_, subst}
-use Prim.Native.Nat.{ℕ, suc, _<_, _≤_, _^_}
+use Prim.Native.Nat.{ℕ, suc, _<_, _≤_, _^_, zero, _%_}
 use native.Mathlib.Omega.{arith}
-use lib.ListN.{length}
+use lib.ListN.{length, getD, set}
 use Rattle.facts.specs.Choice.{pick, both}
 use Rattle.mapper.specs.declared.Mapper.{Mapper}
 use Rattle.mapper.specs.Mappers as mapper
@@ -15,17 +21,14 @@ use Rattle.window.specs.Window as window
 use Rattle.cartridge.specs.Fit.{fitCart, areaOf, InTime}
 use Rattle.cartridge.specs.With.{withMapper}
 use Rattle.cartridge.specs.declared.Cartridge.{Cartridge}
-use Rattle.header.specs.declared.Facts.{Facts}
 use Rattle.mount.specs.Mount as mount
 use Rattle.mount.specs.declared.Mounted.{Mounted}
 use Rattle.mount.specs.declared.Mounted.the-variants as mounted
 use Rattle.access.specs.Verdict.{inRam}
-use Rattle.access.specs.declared.BusRefusal.{BusRefusal}
 use Rattle.access.specs.declared.BusRefusal.the-variants.{BadAddress}
 use Rattle.bus.specs.Bus as bus
 use Rattle.bus.specs.Advance as advance
 use Rattle.bus.specs.Run.{Ready}
-use Rattle.bus.specs.declared.ReadAnswer.{ReadAnswer}
 use Rattle.bus.specs.declared.ReadAnswer.the-variants as read
 use Rattle.bus.specs.declared.WriteAnswer.{WriteAnswer}
 use Rattle.bus.specs.declared.WriteAnswer.the-variants as write
@@ -33,6 +36,8 @@ use Rattle.bus.specs.declared.Advanced.{Advanced}
 use Rattle.bus.specs.declared.Advanced.the-variants as advanced
 use Rattle.save_file.specs.Save as save
 use Rattle.save_file.specs.Load as load
+use Rattle.save_file.specs.declared.Room.{Room}
+use Rattle.save_file.specs.declared.Room.the-variants as room
 use Rattle.save_file.specs.declared.Saved.{Saved}
 use Rattle.save_file.specs.declared.Saved.the-variants as saved
 use Rattle.save_file.specs.declared.Loaded.{Loaded}
@@ -44,28 +49,26 @@ use Rattle.states.specs.declared.Decoded.{Decoded}
 use Rattle.states.specs.declared.Decoded.the-variants.{To, NoState}
 use Rattle.states.proofs.Back.{decode-encode, encode-plain, fit-plain, fit-widths}
 use Rattle.windows.specs.Windows.{windowsOf, askOf, asksOf}
-use Rattle.windows.specs.Through.{seenOf, fromRead, putOf, areaAfter}
+use Rattle.windows.specs.Through.{placeIn, seenOf, fromRead, putBy, putOf, areaBy, areaAfter}
+use Rattle.windows.specs.declared.Windows.{Windows}
+use Rattle.windows.specs.declared.Asked.{Asked}
 use Rattle.windows.specs.declared.Asked.the-variants as asked
-use Rattle.windows.specs.declared.Seen.{Seen}
 use Rattle.windows.specs.declared.Seen.the-variants as seen
 use Rattle.windows.specs.declared.Put.the-variants as put
-use Rattle.windows.proofs.Same.{
-  window-read,
-  only-15,
-  window-write,
-  unasked-write-keeps,
-  windows-stay-in-ram-write,
-  windows-stay-in-advance,
-}
+use Rattle.windows.proofs.Same.{window-read, only-15, window-write, unasked-write-keeps, windows-stay-in-ram-write, windows-stay-in-advance}
 use Rattle.states.specs.OnState.{onState}
-use Rattle.flat_write.specs.Calls.{writeState, stateWritten, areaWritten, advanceState, stateAdvanced}
+use Rattle.flat_write.specs.Calls.{writeState, stateWritten, areaWritten, timed, advanceState, stateAdvanced}
+use Rattle.flat_write.proofs.Laws.{timed-on, untimed-taken}
 use Rattle.player.specs.Bus.{mountNumber, mountState, mountOf, stateMounted, readNumber, readOf, writeNumber, writeOf, advanceNumber, advanceOf}
-use Rattle.player.specs.Save.{savedNumber, savedSize, saveOf, roomSaved, sizeSaved, loadedNumber, loadedState, loadedClock, loadOf, stateLoaded, areaLoaded, clockLoaded}
-use Rattle.player.specs.Windows.{windowsIn, seenNumber, putNumber, askedWindows, windowsAfter, windowRead, windowWrite, areaThrough}
+use Rattle.player.specs.Header.{headerBy, headerOf, factsBy, factsAfter}
+use Rattle.player.specs.Save.{roomNumber, roomSize, sizeOf, sizeAsked, savedNumber, savedSize, saveOf, roomSaved, sizeSaved, loadedNumber, loadedState, loadedClock, loadOf, stateLoaded, areaLoaded, clockLoaded}
+use Rattle.player.specs.Windows.{windowsIn, seenNumber, putNumber, askedNumber, askedWindows, windowsNumber, windowsAfter, windowRead, windowWrite, areaThrough}
 use Rattle.runs.proofs.BusLaws as laws
 use Rattle.runs.proofs.SaveLaws as saves
 use Rattle.promises.specs.Boundary.{Wrote, Comes}
-use Rattle.promises.proofs.InTimeLaws as timing
+use Rattle.shipped.proofs.InTimeLaws as timing
+use Rattle.shipped.proofs.Shipped.{started-in-time}
+use Rattle.shipped.proofs.Through.{number-same, asked-or}
 
 -- 1. "bytes that one of the calls wrote decode to a fit state and encode to themselves":
 pub wrote-comes : (t : List ℕ) → Wrote t → Comes t
@@ -81,10 +84,6 @@ wrote-comes t w =
     }
 
 -- a mounting writes such bytes,
-started-in-time : (d : Facts) (n wall : ℕ) → wall < 2 ^ 64 → InTime (mount.cartOf d n wall .mapper)
-unfolding mount.cartOf
-started-in-time d n wall h = timing.start-in-time (d .kind) (d .multicart) wall h
-
 pub mount-wrote : (s image ram : List ℕ) (wall : ℕ) (c : Cartridge) → wall < 2 ^ 64 → mount.mountOf image ram wall ≡ mounted.To c
     → Wrote (stateMounted s image ram wall)
 unfolding stateMounted
@@ -137,9 +136,11 @@ advance-wrote s n w =
     go : (a : Advanced) → advance.advanceOf (k .cart) n ≡ a → Wrote (advanceState s a)
     go (advanced.To d) e =
         let t = laws.advance-taken (k .cart) d n e in
-        made d (laws.advance-fit (k .cart) d n e)
+        pick-has Wrote (timed (d .mapper))
+        (made d (laws.advance-fit (k .cart) d n e)
         (with-in-time (k .cart) d (mapper.clocksOn (k .cart .mapper) n) (t .is)
-        (timing.clocks-in-time (k .cart .mapper) n (t .early) (k .timed)))
+        (timing.clocks-in-time (k .cart .mapper) n (t .early) (k .timed))))
+        w
     go (advanced.Refuse r) e = w
 
 pub load-wrote : (s : List ℕ) (area : ℕ) (bytes : List ℕ) (wall : ℕ) → Wrote s → Wrote (stateLoaded s area bytes wall)
@@ -191,6 +192,80 @@ refused-advance-keeps s n k e = go (decodeOf s) e
     go (To c) q = kept (advance.advanceOf c n) q
     go NoState q = refl
 
+-- "Without a timer an advance is accepted and changes nothing.": of any bytes that are a state without one not a byte changes, also
+-- where the library would have written them otherwise; and it is accepted where they are fit.
+pub untimed-advance-keeps : (s : List ℕ) (n : ℕ) (c : Cartridge) → decodeOf s ≡ To c → timed (c .mapper) ≡ false → stateAdvanced s n ≡ s
+unfolding stateAdvanced
+untimed-advance-keeps s n c e h =
+    ap (onState (λ c. advanceState s (advance.advanceOf c n)) s) e ∙ go (advance.advanceOf c n) refl
+  where
+    go : (a : Advanced) → advance.advanceOf c n ≡ a → advanceState s a ≡ s
+    go (advanced.To d) p =
+        ap (λ (b : Bool). pick b (encodeOf d) s)
+        (ap (λ (x : Cartridge). timed (x .mapper)) (laws.advance-taken c d n p .is) ∙ timed-on (c .mapper) n ∙ h)
+    go (advanced.Refuse w) p = refl
+
+pub untimed-advance-taken : (s : List ℕ) (n : ℕ) (c : Cartridge) → decodeOf s ≡ To c → timed (c .mapper) ≡ false → fitCart c ≡ true
+    → advanceOf s n ≡ 0
+unfolding advanceOf
+untimed-advance-taken s n c e h f =
+    ap (onState (λ c. advanceNumber (advance.advanceOf c n)) 13) e ∙ ap advanceNumber (untimed-taken c n f h)
+
+pub refused-header-keeps : (image facts : List ℕ) (k : ℕ) → headerOf image ≡ suc k → factsAfter image facts ≡ facts
+unfolding headerOf factsAfter
+refused-header-keeps image facts k e = go (checkOf image) e
+  where
+    go : (x : Checked) → headerBy x ≡ suc k → factsBy facts x ≡ facts
+    go (checked.Accept d) q = absurd (omega (arith, q))
+    go (checked.Refuse w) q = refl
+
+pub refused-size-keeps : (s : List ℕ) (size k : ℕ) → sizeOf s ≡ suc k → sizeAsked s size ≡ size
+unfolding sizeOf sizeAsked
+refused-size-keeps s size k e = go (decodeOf s) e
+  where
+    kept : (x : Room) → roomNumber x ≡ suc k → roomSize size x ≡ size
+    kept (room.Bytes n) q = absurd (omega (arith, q))
+    kept (room.Refuse w) q = refl
+
+    go : (d : Decoded) → onState (λ c. roomNumber (save.roomFor c)) 13 d ≡ suc k → onState (λ c. roomSize size (save.roomFor c)) size d ≡ size
+    go (To c) q = kept (save.roomFor c) q
+    go NoState q = refl
+
+pub refused-windows-keep : (s numbers : List ℕ) (k : ℕ) → windowsNumber s ≡ suc k → windowsAfter s numbers ≡ numbers
+unfolding windowsNumber windowsAfter
+refused-windows-keep s numbers k e = go (decodeOf s) e
+  where
+    kept : (x : Asked) → askedNumber x ≡ suc k → askedWindows numbers x ≡ numbers
+    kept (asked.To w) q = absurd (omega (arith, q))
+    kept asked.Unfit q = refl
+
+    go : (d : Decoded) → onState (λ c. askedNumber (askOf c)) 13 d ≡ suc k → onState (λ c. askedWindows numbers (askOf c)) numbers d ≡ numbers
+    go (To c) q = kept (askOf c) q
+    go NoState q = refl
+
+-- whatever the numbers are: 15, and 0x200 too
+pub refused-window-write-keeps : (numbers ram : List ℕ) (addr byte k : ℕ) → windowWrite numbers addr ≡ suc k
+    → areaThrough numbers ram addr byte ≡ ram
+unfolding windowWrite areaThrough putOf areaAfter putBy areaBy
+refused-window-write-keeps numbers ram addr byte k e = go (ltb addr 0x8000) (inRam addr) refl refl e
+  where
+    w : Windows
+    w = windowsIn numbers
+
+    by-how : (h : ℕ) → putNumber (getD (put.Done ∷ put.Done ∷ put.Done ∷ []) h put.Ask) ≡ suc k
+        → getD (ram ∷ set ram (placeIn w addr) byte ∷ set ram (placeIn w addr) (byte % 16) ∷ []) h ram ≡ ram
+    by-how zero q = refl
+    by-how (suc zero) q = absurd (omega (arith, q))
+    by-how (suc (suc zero)) q = absurd (omega (arith, q))
+    by-how (suc (suc (suc h))) q = refl
+
+    go : (low inside : Bool) → ltb addr 0x8000 ≡ low → inRam addr ≡ inside
+        → putNumber (pick low put.Ask (pick inside (putBy w) put.BadAddress)) ≡ suc k → pick inside (areaBy w ram addr byte) ram ≡ ram
+    go low false p q n = refl
+    go true true p q n =
+        absurd (omega (arith, ltb-true addr 0x8000 p, leb-true 0xA000 addr (both-left (leb 0xA000 addr) (leb addr 0xBFFF) q)))
+    go false true p q n = by-how (w .how) n
+
 pub refused-mount-keeps : (s image ram : List ℕ) (wall k : ℕ) → mountOf image ram wall ≡ suc k
     → (stateMounted s image ram wall ≡ s) × (mount.areaAfter image ram wall ≡ ram)
 unfolding mountOf stateMounted mount.areaAfter
@@ -236,14 +311,6 @@ refused-save-keeps s ram room wall size k e = go (decodeOf s) e
     go NoState q = (refl, refl)
 
 -- 3. "for every address, reading through the windows gives what imf_read gives", but 0x200 where a clock register stands there.
-number-same : (a : ReadAnswer) → ((w : BusRefusal) → a ≡ read.Refuse w → w ≡ BadAddress) → seenNumber (fromRead a) ≡ readNumber a
-number-same (read.Byte b) h = refl
-number-same (read.Refuse w) h = ap (λ (x : BusRefusal). readNumber (read.Refuse x)) (sym (h w refl))
-
-asked-or : (b : Bool) (x : Seen) → seenNumber (pick b seen.Ask x) ≡ pick b 0x200 (seenNumber x)
-asked-or true x = refl
-asked-or false x = refl
-
 put-or : (b : Bool) → putNumber (pick b put.Ask put.Done) ≡ pick b 0x200 0
 put-or true = refl
 put-or false = refl

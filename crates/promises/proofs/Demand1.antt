@@ -4,15 +4,16 @@
 -- contract. The rest is one statement, `Refusing`, and an instance of it for each call that refuses. The calls of `PublicCalls`
 -- speak of definitions (`checkOf`, `mountOf`, ..): the contracts say that the code's answers, and every lent byte, equal these on
 -- all inputs. Assumes nothing.
+use Rattle.save_file.specs.declared.Room.the-variants as room
 use mathlib.Core.Bool.{true, false}
 use mathlib.Core.List.{List, [], _∷_}
-use mathlib.Core.Logic.{_⊎_, inl, inr}
+use mathlib.Core.Logic.{_⊎_, inl, inr, _↔_}
 use mathlib.Core.Path.{_≡_, refl, sym, ap}
-use Prim.Native.Nat.{ℕ, _+_, _*_, _<_}
+use Prim.Native.Nat.{ℕ, _+_, _*_, _<_, _≤_}
 use native.Mathlib.Omega.{arith}
-use lib.ListN.{length, drop}
+use lib.ListN.{length, drop, replicate}
 use borrow.Author.Tests.{eqb-true}
-use Rattle.facts.specs.Choice.{pick}
+use Rattle.facts.specs.Choice.{pick, either}
 use Rattle.facts.specs.Refusals.{firstNo, anyNo, First}
 use Rattle.facts.proofs.RefusalLaws.{none-or-first, first-map}
 use Rattle.clock.specs.Ticking as clock
@@ -75,8 +76,26 @@ use Rattle.promises.specs.PublicCalls.{
   sizing,
   loading,
   waking,
+  stepping,
+  askedIn,
+  programNoes,
+  replaying,
 }
-use Rattle.promises.proofs.RefusingLaws.{by-first, mount-is-first, read-taken, write-taken, load-taken}
+use Rattle.promises.proofs.RefusingLaws.{
+  by-first,
+  mount-is-first,
+  read-taken,
+  write-taken,
+  load-taken,
+  replay-is-first,
+  asked-saves,
+}
+use Rattle.trace.proofs.NoesLaws.{next-is-first, taken-is-none}
+use Rattle.replay_step.specs.Step.{machine}
+use Rattle.replay_program.specs.Written.{notRead, fileLine, writtenOf, ramAfter}
+use Rattle.replay_program.specs.declared.File.{File}
+use Rattle.replay_program.proofs.Apart.{one-refusal, text-is-no-refusal}
+use Rattle.replay_program.proofs.Theorems.{file-exactly, file-keeps, refused-keeps}
 
 -- 1. "Each bad input gets its number". Every input of a call of which the statement holds gets the answer, or the number of the
 -- first test that holds.
@@ -158,6 +177,31 @@ pub wake-refuses : (b : Block) (wall : ℕ) → Refusing (20 ∷ 17 ∷ []) (wak
 unfolding block.wakeOf block.blockNoes
 wake-refuses b wall = by-first (waking b wall) refl (λ v w e. cc) (λ w e. cc) refl (λ w e. refl)
 
+-- `trace::next_record`, of any bytes and any place: "22 (two bytes that are no mark) or 23 (one byte left, or a body cut)".
+pub next-record-refuses : (s : List ℕ) (at : ℕ) → Refusing (22 ∷ 23 ∷ []) (stepping s at)
+next-record-refuses s at =
+    by-first (stepping s at) (next-is-first s at) (λ v w e. cc) (taken-is-none s at) refl (λ w e. refl)
+
+-- `replay_program::write`, of any two files: "a file missing or too long, tested first, only `F`", exactly then, and the room for
+-- RAM stays;
+pub replay-files-exactly : (rom : File) (image : List ℕ) (records : File) (s : List ℕ)
+    → (writtenOf rom image records s ≡ fileLine)
+    ↔ (either (notRead rom (length image) 32768) (notRead records (length s) 16384) ≡ true)
+replay-files-exactly = file-exactly
+
+pub replay-files-keep : (rom : File) (image : List ℕ) (records : File) (s ram : List ℕ) → writtenOf rom image records s ≡ fileLine
+    → ramAfter rom image records s ram ≡ ram
+replay-files-keep = file-keeps
+
+-- where both were read, "A refused mounting writes only `M` and its number", 12 exactly where more than 8,192 bytes are needed.
+pub replay-refuses : (image s ram : List ℕ) → length image ≤ 32768 → length s ≤ 16384 → 8192 ≤ length ram
+    → Refusing (1 ∷ 2 ∷ 3 ∷ 4 ∷ 5 ∷ 6 ∷ 7 ∷ 8 ∷ 9 ∷ 10 ∷ 11 ∷ 12 ∷ []) (replaying image s ram)
+unfolding programNoes header.noes
+replay-refuses image s ram h l r =
+    by-first (replaying image s ram) (replay-is-first image s h l) one-refusal
+    (λ w. text-is-no-refusal image (machine (cartOf (factsIn image) (length image) 0) (replicate (askedIn image) 0)) s (mount.numberOf w))
+    refl (λ w. refused-keeps image s h l ram (mount.numberOf w) r)
+
 -- Above 8 MiB it is number 1, whatever stands in the image.
 pub too-long-is-1 : (image : List ℕ) → 8388608 < length image → checkOf image ≡ checked.Refuse TooLong
 too-long-is-1 image h = sym (no-1 image h)
@@ -167,10 +211,10 @@ pub asked-area-mounts : (image ram : List ℕ) (wall : ℕ) (d : Facts) → chec
     → mount.areaFor image ≡ area.Bytes (length ram) → mountOf image ram wall ≡ mounted.To (cartOf d (length image) wall)
 asked-area-mounts = laws.asked-mounts
 
--- A room of the length that `save_file::ask_room` asks for holds the save.
-pub asked-room-saves : (c : Cartridge) (ram : List ℕ) (wall : ℕ) → length ram ≡ areaOf c
-    → areaOf c + batterySize (clockIn (c .mapper)) ≡ length (bytesOf (c .mapper) ram wall)
-asked-room-saves = room-length
+-- Where `save_file::ask_room` asks for n bytes, `save_file::save` into a room of n is not refused, and writes n.
+pub asked-room-saves : (c : Cartridge) (ram : List ℕ) (n wall : ℕ) → length ram ≡ areaOf c → roomFor c ≡ room.Bytes n
+    → saveOf c ram n wall ≡ saved.Wrote n
+asked-room-saves = asked-saves
 
 -- 2. "a refused call changes neither the cartridge nor any lent byte": of an access, the cartridge and its area together.
 pub refused-changes-nothing : (rom : List ℕ) (m : Machine) (a : Access) (k : ℕ) → stepOf rom m a .answer ≡ run.refused k

@@ -8,7 +8,7 @@ use Rattle.save_file.specs.Save.{saveOf, roomAfter}
 use mathlib.Core.Bool.{Bool, true, false}
 use mathlib.Core.List.{List}
 use mathlib.Core.Logic.{_↔_, _⊎_}
-use mathlib.Core.Option.{Option, some}
+use mathlib.Core.Option.{Option, none, some}
 use mathlib.Core.Path.{_≡_, refl, ap}
 use Prim.Native.Nat.{ℕ, _+_, _%_, _^_, _<_, _≤_}
 use lib.Count.{ones, trailingZeros}
@@ -86,6 +86,22 @@ use Rattle.player.specs.Header.{factsAfter}
 use Rattle.title_part.specs.Part.{TitlePart}
 use Rattle.title_part.specs.Answered.{AnswersTitle}
 use Rattle.title_part.proofs.Title as title
+use denote.Ref.{now}
+use Rattle.player.proofs.imf_mount.Reads as imf-mount
+use Rattle.player.proofs.imf_windows.Reads as imf-windows
+use Rattle.shipped.specs.Along.{Out, Outs, outs}
+use Rattle.shipped.specs.Sequence.{Kept}
+use Rattle.shipped.specs.Ships.{keptOf}
+use Rattle.shipped.specs.Requests.{Request, Reply, servesOf}
+use Rattle.shipped.specs.Requests as requests
+use Rattle.shipped.specs.Through.{Watched, watchedOf}
+use Rattle.shipped.specs.Agrees.{ShippedAgrees}
+use Rattle.shipped.specs.Made.{Call, AllMade, MadeRequest, AllRequested, AllMadeThrough, AllMadeAny}
+use Rattle.shipped.specs.Mounted.{MountsBy, keptBy, mountedBy, gameBy, watchedBy}
+use Rattle.shipped.proofs.Mounted as mounting
+use Rattle.shipped.proofs.MadeSaves as shipped
+use Rattle.shipped.proofs.AllCalls as windows
+use Rattle.shipped.proofs.Demand2 as ships
 use Rattle.promises.specs.PublicCalls.{factsIn}
 
 -- ---- Against the definitions
@@ -320,3 +336,49 @@ title-lies-there = title.title-answers
 pub boundary-title : (image facts : List ℕ) (d : Facts) → checkOf image ≡ Accept d
     → TitlePart image (getD (factsAfter image facts) 8 0) (getD (factsAfter image facts) 9 0)
 boundary-title = title.boundary-title
+
+-- ---- What ships
+
+-- 10. The exported calls. `imf_mount` answered 0, at a wall time of 64 bits,
+pub mounted-ships : (c : Call imf-mount.Learnt) → c .answer ≡ 0 → c .passed .1 .1 .1 .0 < 2 ^ 64 → MountsBy c
+mounted-ships = mounting.mount-made
+
+-- and any list of exported calls follows, each lent what the one before left, and each answering and leaving what its contract says: reads,
+-- writes, advances, saves out and in. They answer and leave what the calls on the mounted cartridge do, refused ones among them.
+pub calls-ship : (c : Call imf-mount.Learnt) (x : MountsBy c) (qs : List Request) → requests.Octets qs
+    → {got : Outs Reply Kept} → AllRequested (now (c .passed .1 .0)) (keptBy c) qs got
+    → let served = servesOf (now (c .passed .1 .0)) (mountedBy c x) qs in got ≡ outs (served .answers) (keptOf (served .left))
+calls-ship = shipped.made-requests-ship
+
+-- So it is with accesses through windows, from an `imf_windows` on what the mounting left: the state is asked where they say so, and the
+-- windows anew after a write below 0x8000 and after a save that was read.
+pub calls-ship-through-windows : (c : Call imf-mount.Learnt) (x : MountsBy c) (d : Call imf-windows.Learnt)
+    → now (d .passed .0) ≡ keptBy c .state → (qs : List Request) → requests.Octets qs
+    → {got : Outs Reply Watched} → AllMadeAny (now (c .passed .1 .0)) (watchedBy c d) qs got
+    → let served = servesOf (now (c .passed .1 .0)) (mountedBy c x) qs in got ≡ outs (served .answers) (watchedOf (served .left))
+calls-ship-through-windows = windows.made-all-ship
+
+-- 11. And demand 2 of them, as in 6: their numbers are those of answers, and their bytes those of a cartridge, that agree with the Rust,
+pub shipped-calls-agree : (c : Call imf-mount.Learnt) (x : MountsBy c) (octets : bytes.Octets (now (c .passed .1 .0)))
+    → (accesses : List Access) → calls.Octets accesses → Unseen (gameBy c x octets) none accesses
+    → {got : Outs ℕ Kept} → AllMade (now (c .passed .1 .0)) (keptBy c) accesses got
+    → ShippedAgrees (gameBy c x octets) none accesses got
+shipped-calls-agree = ships.made-agrees
+
+-- through windows too,
+pub shipped-windows-agree : (c : Call imf-mount.Learnt) (x : MountsBy c) (octets : bytes.Octets (now (c .passed .1 .0)))
+    → (d : Call imf-windows.Learnt) → now (d .passed .0) ≡ keptBy c .state → (accesses : List Access) → calls.Octets accesses
+    → Unseen (gameBy c x octets) none accesses
+    → {got : Outs ℕ Watched} → AllMadeThrough (now (c .passed .1 .0)) (watchedBy c d) accesses got
+    → ShippedAgrees (gameBy c x octets) none accesses (outs (got .answers) (got .left .kept))
+shipped-windows-agree = ships.made-through-agrees
+
+-- and after an `imf_save_in` that answered 0.
+pub shipped-saved-calls-agree : (c : Call imf-mount.Learnt) (x : MountsBy c) (octets : bytes.Octets (now (c .passed .1 .0)))
+    (save : List ℕ) (clock : ℕ) → bytes.Octets save
+    → {l : Out Reply Kept} → MadeRequest (now (c .passed .1 .0)) (keptBy c) (requests.loads save (c .passed .1 .1 .1 .0) clock) l
+    → l .answer .number ≡ 0 → CutHarmless (gameBy c x octets) (some save) → (accesses : List Access) → calls.Octets accesses
+    → Unseen (gameBy c x octets) (some save) accesses
+    → {got : Outs ℕ Kept} → AllMade (now (c .passed .1 .0)) (l .left) accesses got
+    → ShippedAgrees (gameBy c x octets) (some save) accesses got
+shipped-saved-calls-agree = ships.made-saved-agrees

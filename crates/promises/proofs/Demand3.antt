@@ -6,7 +6,8 @@ use mathlib.Core.Bool.{Bool, true, false}
 use mathlib.Core.Logic.{_↔_}
 use mathlib.Core.Path.{_≡_, refl, sym, ap, _∙_, subst}
 use Prim.Native.Nat.{ℕ, _+_, _/_, _%_, _<_, _≤_}
-use lib.ListN.{getD}
+use mathlib.Core.List.{List}
+use lib.ListN.{getD, replicate}
 use Rattle.clock_registers.specs.Fit.{fitRegisters}
 use Rattle.clock.specs.Fit.{fitClock}
 use Rattle.clock_registers.specs.Seconds.{forwardOf}
@@ -34,6 +35,17 @@ use Rattle.bus.specs.declared.Advanced.the-variants as advanced
 use Rattle.runs.specs.Time.{thenAdvance, singleTicks, Proper, SameTime, secondsOf, period, periodOn, keeps}
 use Rattle.runs.specs.Advances as cartridge
 use Rattle.runs.specs.Advances.{Timed, withClockOf, fromClock, singleAdvances}
+use Rattle.bytes_le.specs.Little.{Octets}
+use Rattle.states.specs.Layout.{encodeOf}
+use Rattle.states.specs.Reading.{decodeOf}
+use Rattle.states.specs.declared.Decoded.the-variants as decoded
+use Rattle.flat_write.specs.Calls.{stateAdvanced}
+use Rattle.shipped.specs.Moves.{movedOf, thenMoved, singleMoves, SameMoved, onesLeft}
+use Rattle.shipped.specs.Along.{outs}
+use Rattle.shipped.specs.Sequence.{kept, callsOf}
+use Rattle.shipped.proofs.Demand3 as shipped
+use Rattle.bus.specs.Run as run
+use Rattle.player.specs.Bus as exported
 use Rattle.runs.proofs.MapperLaws.{clock-fits}
 use Rattle.runs.proofs.AdvanceLaws as laws
 use Rattle.runs.proofs.TimeLaws.{
@@ -200,3 +212,34 @@ cartridge-soon-proper c d k j s t h long e i =
     let x = laws.timed-taken c k (secondsOf s) t d e in
     let q = laws.timed-clock c k (secondsOf s) t j d x i in
     soon-proper k j s (timed-fit c k t) h long (x .taken ∙ ap To q)
+
+-- 7. As it ships: `imf_advance` on any bytes, the number that it answers and the bytes that it leaves. By a + b is by a and then by b,
+pub shipped-advances-join : (s : List ℕ) → Octets s → (a b : ℕ) → SameMoved (movedOf s (a + b)) (thenMoved (movedOf s a) b)
+shipped-advances-join = shipped.advances-join
+
+-- by n is n times by 1,
+pub shipped-advance-is-singles : (n : ℕ) (s : List ℕ) → Octets s → SameMoved (movedOf s n) (singleMoves n s)
+shipped-advance-is-singles = shipped.advance-is-singles
+
+-- as n calls by 1 that were made one after the other, where the one by n answers 0,
+pub shipped-advance-is-ones : (n : ℕ) (image s ram : List ℕ) → Octets s → exported.advanceOf s n ≡ 0
+    → callsOf image (kept s ram) (replicate n (run.clocks 1)) ≡ outs (replicate n 0) (kept (onesLeft n s) ram)
+shipped-advance-is-ones = shipped.advance-is-ones
+
+-- a halted clock stays as it is,
+pub shipped-halted-stays : (s : List ℕ) (c : Cartridge) (k : Clock) (n : ℕ) → Octets s → decodeOf s ≡ decoded.To c → Timed c k
+    → k .running .halt ≡ true → movedOf s n ≡ record { number = 0; state = encodeOf c }
+shipped-halted-stays = shipped.halted-stays
+
+-- a period brings the registers back, with the carry,
+pub shipped-period-comes-back : (s : List ℕ) (c : Cartridge) (k : Clock) → decodeOf s ≡ decoded.To c → Timed c k → Proper (k .running)
+    → k .running .halt ≡ false → k .time + period ≤ 18446744073709551615
+    → (movedOf s (secondsOf period) ≡ record { number = 0; state = encodeOf (withClockOf c (periodOn k)) })
+    × (decodeOf (stateAdvanced s (secondsOf period)) ≡ decoded.To (withClockOf c (periodOn k)))
+shipped-period-comes-back = shipped.period-comes-back
+
+-- and no less.
+pub shipped-period-is-least : (s : List ℕ) (c d : Cartridge) (k j : Clock) (n : ℕ) → Octets s → decodeOf s ≡ decoded.To c → Timed c k
+    → Proper (k .running) → k .running .halt ≡ false → 0 < n → n < period → exported.advanceOf s (secondsOf n) ≡ 0
+    → decodeOf (stateAdvanced s (secondsOf n)) ≡ decoded.To d → clockIn (d .mapper) ≡ timer.Clock j → SameTime (j .running) (k .running) → ⊥
+shipped-period-is-least = shipped.period-is-least

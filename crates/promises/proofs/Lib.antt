@@ -1,10 +1,8 @@
 pub mod RefusingLaws
-pub mod InTimeLaws
 pub mod Demand1
 pub mod Demand2
 pub mod Demand3
 pub mod Save
 pub mod Bench
-pub mod Coincide
 pub mod Boundary
-pub mod BoundaryCoincide
+pub mod Exported

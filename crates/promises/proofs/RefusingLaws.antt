@@ -1,21 +1,22 @@
 -- A call whose answer is the first refusal that holds, where no refusal is the accepted answer and no two are one, is what demand 1
 -- asks; and what that takes of each call. Assumes nothing.
+use native.Mathlib.Omega.{arith}
 use mathlib.Core.Bool.{Bool, true, false, not}
 use mathlib.Core.List.{List, [], _∷_, map}
 use mathlib.Core.Logic.{_⊎_, inl, inr}
 use mathlib.Core.Path.{_≡_, refl, sym, ap, _∙_}
-use Prim.Native.Nat.{ℕ}
-use lib.Dec.{eqb}
-use lib.ListN.{length}
+use Prim.Native.Nat.{ℕ, _+_, _≤_}
+use lib.Dec.{eqb, ltb}
+use lib.ListN.{length, replicate}
 use Rattle.facts.specs.Choice.{pick}
 use Rattle.facts.specs.Refusals.{No, no, firstNo, anyNo, inWords, First}
-use Rattle.facts.proofs.ChoiceLaws.{false≢true, pick-has}
-use Rattle.facts.proofs.RefusalLaws.{none-or-first, first-answers, none-accepts, given-first, first-map, first-append, first-said}
+use Rattle.facts.proofs.ChoiceLaws.{false≢true, pick-has, not-false}
+use Rattle.facts.proofs.RefusalLaws.{none-or-first, first-answers, none-accepts, given-first, first-map, first-append, first-said, none-if, none-at}
 use Rattle.header.specs.Check.{checkOf}
 use Rattle.header.specs.Accepted.{testsOf}
 use Rattle.header.specs.declared.Checked.{Checked}
 use Rattle.header.specs.declared.Checked.the-variants as checked
-use Rattle.cartridge.specs.Fit.{areaOf}
+use Rattle.cartridge.specs.Fit.{areaOf, fitCart}
 use Rattle.cartridge.specs.declared.Cartridge.{Cartridge}
 use Rattle.mount.specs.Mount.{cartOf, mountBy, mountOf}
 use Rattle.mount.specs.declared.MountRefusal.the-variants.{Header, WrongArea}
@@ -27,13 +28,35 @@ use Rattle.access.specs.declared.Verdict.the-variants.{Rom, Ram}
 use Rattle.bus.specs.Bus.{readBy, writeBy}
 use Rattle.bus.specs.declared.ReadAnswer.the-variants as read
 use Rattle.bus.specs.declared.WriteAnswer.the-variants as write
-use Rattle.battery.specs.Battery.{hasBlock}
+use Rattle.battery.specs.Battery.{hasBlock, clockIn, batterySize}
+use Rattle.save_file.specs.Admit.{admitNoes}
+use Rattle.save_file.specs.Save.{bytesOf, saveNoes, saveOf, askNoes, roomFor}
 use Rattle.save_file.specs.Load.{acceptedOf}
+use Rattle.save_file.proofs.Laws.{room-length}
+use Rattle.save_file.specs.declared.Room.{Room}
+use Rattle.save_file.specs.declared.Room.the-variants as room
+use Rattle.save_file.specs.declared.Saved.the-variants as saved
 use Rattle.save_file.specs.declared.SaveRefusal.{SaveRefusal}
+use Rattle.save_file.specs.declared.SaveRefusal.the-variants.{NoBattery, ShortRoom}
+use Rattle.runs.proofs.SaveLaws as saves
 use Rattle.save_file.specs.declared.Loaded.{Loaded}
 use Rattle.save_file.specs.declared.Loaded.the-variants as loaded
+use Rattle.replay_step.specs.Step.{machine}
+use Rattle.replay_text.specs.Replay.{textOf}
+use Rattle.replay_program.specs.Written.{writtenOf}
+use Rattle.replay_program.specs.declared.File.the-variants.{Whole}
+use Rattle.replay_program.proofs.Theorems.{header-refused, area-too-large, mounted-replays}
 use Rattle.promises.specs.Refusing.{Call, Refusing}
-use Rattle.promises.specs.PublicCalls.{factsIn, areaNoes, mountNoes}
+use Rattle.promises.specs.PublicCalls.{
+  factsIn,
+  areaNoes,
+  mountNoes,
+  askedIn,
+  largeNoes,
+  programNoes,
+  mountLine,
+}
+use borrow.Author.Tests.{ltb-true, ltb-false, le-ltb}
 
 pub by-first : {R A : Type 0} {numbers : List ℕ} (c : Call R A) → c .answer ≡ firstNo (c .refuse) (c .tests) (c .accepted)
     → ((v w : R) → c .refuse v ≡ c .refuse w → v ≡ w) → ((w : R) → c .accepted ≡ c .refuse w → false ≡ true)
@@ -87,3 +110,66 @@ pub load-taken : (c : Cartridge) (behind : List ℕ) (wall : ℕ) (w : SaveRefus
 unfolding acceptedOf
 load-taken c behind wall w =
     pick-has (λ (x : Loaded). x ≡ loaded.Refuse w → false ≡ true) (hasBlock (c .mapper) behind) (λ e. cc) (λ e. cc)
+
+-- ---- the replay program, where both files were read
+
+module _ (image s : List ℕ) (h : length image ≤ 32768) (l : length s ≤ 16384) where
+  abbrev text : List ℕ
+  text = textOf image (machine (cartOf (factsIn image) (length image) 0) (replicate (askedIn image) 0)) s
+
+  abbrev last : List ℕ
+  last = firstNo mountLine (largeNoes image) text
+
+  joined : firstNo (λ w. mountLine (Header w)) (testsOf image) last ≡ firstNo mountLine (programNoes image) text
+  unfolding programNoes
+  joined =
+      first-said Header mountLine (testsOf image) last
+      ∙ first-append mountLine (inWords Header (testsOf image)) (largeNoes image) text
+
+  by-area : checkOf image ≡ checked.Accept (factsIn image) → writtenOf Whole image Whole s ≡ last
+  by-area e = go (ltb 8192 (askedIn image)) refl
+    where
+      go : (t : Bool) → ltb 8192 (askedIn image) ≡ t
+          → writtenOf Whole image Whole s ≡ firstNo mountLine (no t WrongArea ∷ []) text
+      go true g = area-too-large image s h l e (ltb-true 8192 (askedIn image) g)
+      go false g = mounted-replays image s h l e (ltb-false 8192 (askedIn image) g)
+
+  pub replay-is-first : writtenOf Whole image Whole s ≡ firstNo mountLine (programNoes image) text
+  unfolding checkOf
+  replay-is-first = go (none-or-first (testsOf image))
+    where
+      go : (anyNo (testsOf image) ≡ false) ⊎ First (testsOf image)
+          → writtenOf Whole image Whole s ≡ firstNo mountLine (programNoes image) text
+      go (inl n) =
+          by-area (none-accepts checked.Refuse (checked.Accept (factsIn image)) (testsOf image) n)
+          ∙ sym (none-accepts (λ w. mountLine (Header w)) last (testsOf image) n)
+          ∙ joined
+      go (inr f) =
+          header-refused image s h l (first-answers checked.Refuse (checked.Accept (factsIn image)) (testsOf image) f)
+          ∙ sym (first-answers (λ w. mountLine (Header w)) last (testsOf image) f)
+          ∙ joined
+
+-- ---- a room that was asked for
+
+abbrev isBytes : Room → Bool
+isBytes (room.Bytes n) = true
+isBytes (room.Refuse w) = false
+
+pub asked-saves : (c : Cartridge) (ram : List ℕ) (n wall : ℕ) → length ram ≡ areaOf c → roomFor c ≡ room.Bytes n
+    → saveOf c ram n wall ≡ saved.Wrote n
+unfolding roomFor saveNoes admitNoes
+asked-saves c ram n wall l e =
+    let all = areaOf c + batterySize (clockIn (c .mapper)) in
+    let none = none-if isBytes room.Refuse (λ w. refl) (askNoes c) (room.Bytes all) (ap isBytes e) in
+    let fit = not-false (fitCart c) (none-at (askNoes c) 0 (no false NoBattery) refl none) in
+    let battery = none-at (askNoes c) 1 (no false NoBattery) refl none in
+    let asked = sym (none-accepts room.Refuse (room.Bytes all) (askNoes c) none) ∙ e in
+    let same : all ≡ n = cc in
+    let long : length (bytesOf (c .mapper) ram wall) ≡ n = sym (room-length c ram wall l) ∙ same in
+    saves.fit-saves c ram n wall fit l
+    ∙ ap (λ (b : Bool). firstNo saved.Refuse
+    (no b NoBattery ∷ no (ltb n (length (bytesOf (c .mapper) ram wall))) ShortRoom ∷ []) (saved.Wrote (length (bytesOf (c .mapper) ram wall))))
+    battery
+    ∙ ap (λ (b : Bool). firstNo saved.Refuse (no b ShortRoom ∷ []) (saved.Wrote (length (bytesOf (c .mapper) ram wall))))
+    (le-ltb n (length (bytesOf (c .mapper) ram wall)) (omega (arith, long)))
+    ∙ ap saved.Wrote long

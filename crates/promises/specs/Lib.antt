@@ -1,4 +1,5 @@
 pub mod Refusing
+pub mod ExportedCalls
 pub mod PublicCalls
 pub mod Boundary
 pub mod Bench

@@ -2,8 +2,8 @@
 use mathlib.Core.Bool.{false, not}
 use mathlib.Core.List.{List, [], _∷_, _++_}
 use Prim.Native.Nat.{ℕ, _+_}
-use lib.Dec.{eqb}
-use lib.ListN.{length, drop}
+use lib.Dec.{eqb, ltb}
+use lib.ListN.{length, replicate, drop}
 use Rattle.facts.specs.Choice.{pick}
 use Rattle.facts.specs.Refusals.{No, no, inWords}
 use Rattle.clock.specs.Fit.{fitClock}
@@ -59,6 +59,16 @@ use Rattle.save_file.specs.declared.Saved.{Saved}
 use Rattle.save_file.specs.declared.Saved.the-variants as saved
 use Rattle.save_file.specs.declared.Loaded.{Loaded}
 use Rattle.save_file.specs.declared.Loaded.the-variants as loaded
+use Rattle.trace.specs.Trace as trace
+use Rattle.trace.specs.Noes.{traceNoes, takenAt}
+use Rattle.trace.specs.declared.TraceRefusal.{TraceRefusal}
+use Rattle.trace.specs.declared.Next.{Next}
+use Rattle.trace.specs.declared.Next.the-variants as next
+use Rattle.lines.specs.Lines.{numbered}
+use Rattle.replay_step.specs.Step.{machine}
+use Rattle.replay_text.specs.Replay.{textOf}
+use Rattle.replay_program.specs.Written.{writtenOf, ramAfter}
+use Rattle.replay_program.specs.declared.File.the-variants.{Whole}
 use Rattle.promises.specs.Refusing.{Call}
 
 -- ---- the header and mounting
@@ -220,4 +230,49 @@ waking b wall =
       answer = block.wakeOf b wall;
       before = [];
       after = [];
+    }
+
+-- ---- the trace
+
+-- `trace::next_record`, and with it `Reader::next`
+abbrev pub stepping : List ℕ → ℕ → Call TraceRefusal Next
+stepping s at =
+    record {
+      tests = traceNoes s at;
+      numberOf = trace.numberOf;
+      refuse = next.Refuse;
+      accepted = takenAt s at;
+      answer = trace.recordAt s at;
+      before = [];
+      after = [];
+    }
+
+-- ---- the replay program
+
+-- the area that an image asks for
+abbrev pub askedIn : List ℕ → ℕ
+askedIn image = mount.areaIn (factsIn image .kind) (factsIn image .size)
+
+-- "with a RAM area of at most 8,192 bytes (12 if more is needed)"
+abbrev pub largeNoes : List ℕ → List (No MountRefusal)
+largeNoes image = no (ltb 8192 (askedIn image)) WrongArea ∷ []
+
+unfoldable pub programNoes : List ℕ → List (No MountRefusal)
+programNoes image = inWords Header (testsOf image) ++ largeNoes image
+
+-- "A refused mounting writes only `M` (77) and its number"
+abbrev pub mountLine : MountRefusal → List ℕ
+mountLine w = numbered 77 (mount.numberOf w)
+
+-- `replay_program::write`, of two files that were read: its answer is all that it writes, and lent is the room for RAM
+abbrev pub replaying : List ℕ → List ℕ → List ℕ → Call MountRefusal (List ℕ)
+replaying image s ram =
+    record {
+      tests = programNoes image;
+      numberOf = mount.numberOf;
+      refuse = mountLine;
+      accepted = textOf image (machine (cartOf (factsIn image) (length image) 0) (replicate (askedIn image) 0)) s;
+      answer = writtenOf Whole image Whole s;
+      before = ram;
+      after = ramAfter Whole image Whole s ram;
     }
