@@ -34,7 +34,6 @@ use Rattle.mbc1.specs.Registers as mbc1
 use Rattle.clock_block.specs.Layout.{blockIn}
 use Rattle.clock_block.specs.Waking.{late, blockOf}
 use Rattle.battery.specs.Battery.{clockIn, hasClock}
-use Rattle.cartridge.specs.Fit.{InTime}
 use Rattle.cartridge.specs.declared.Cartridge.{Cartridge}
 use Rattle.mount.specs.Mount as mount
 use Rattle.mount.specs.Mount.{mountOf}
@@ -313,10 +312,10 @@ pub rust-panics-at-16 : (o : rust.Cartridge) (u : rust-mbc3.Mbc3) → o .mapper 
 rust-panics-at-16 = sixteen-stops
 
 -- and at any point of a game it panics where 17 is, of an advance.
-pub rust-panics-at-17 : {g : Game} {file : Option (List ℕ)} {accesses : List Access} {xs : List Answer} {n : Machine}
-    → (x : GameAgrees g file accesses xs n) → (k : ℕ) → InTime (n .cart .mapper) → stepOf (g .image) n (run.clocks k) .answer ≡ run.refused 17
-    → originalStep (x .left) (run.clocks k) ≡ panic
-rust-panics-at-17 x = seventeen-stops (x .beside)
+pub rust-panics-at-17 : {g : Game} {file : Option (List ℕ)} {accesses : List Access} {xs : List Answer} {n : Machine} → g .wall < 2 ^ 64
+    → calls.Octets accesses → Calls (g .image) (begins g file) accesses xs n → (x : GameAgrees g file accesses xs n) → (k : ℕ)
+    → stepOf (g .image) n (run.clocks k) .answer ≡ run.refused 17 → originalStep (x .left) (run.clocks k) ≡ panic
+rust-panics-at-17 {g} {file} {accesses} h o made x k = seventeen-stops (x .beside) k (ships.game-in-time g file h accesses o made)
 
 -- And where the Rust panics, and no time passes 2^64 - 1 seconds, 15 or 16 is given.
 pub rust-panics-only-there : {image : List ℕ} (past : Since) {m : Machine} {o : rust.Cartridge} → Ready image m

@@ -58,55 +58,11 @@ use Rattle.shipped.proofs.WidthLaws.{decoded-widths}
 use Rattle.shipped.proofs.ByteLaws.{octets-or, read-lt}
 use Rattle.promises.specs.Refusing.{Call, Refusing}
 use Rattle.promises.specs.PublicCalls.{checking, mounting, reading, writing, advancing, saving, sizing, loading}
-use Rattle.promises.specs.ExportedCalls.{
-  inNumbers,
-  onBytes,
-  imfHeader,
-  imfMount,
-  busNone,
-  imfWrite,
-  imfAdvance,
-  imfSaveSize,
-  imfSaveOut,
-  loadNone,
-  imfSaveIn,
-  readRefused,
-  imfRead,
-  windowsNo,
-  imfWindows,
-  outside,
-  outsideNo,
-  outsideRead,
-  askState,
-  ramByte,
-  byteThrough,
-  ramTaken,
-  takenThrough,
-  imfWindowRead,
-  imfWindowWrite,
-}
+use Rattle.promises.specs.ExportedCalls.{inNumbers, onBytes, imfHeader, imfMount, busNone, imfWrite, imfAdvance, imfSaveSize, imfSaveOut, loadNone, imfSaveIn, readRefused, imfRead, windowsNo, imfWindows, outside, outsideNo, outsideRead, askState, ramByte, byteThrough, ramTaken, takenThrough, imfWindowRead, imfWindowWrite}
 use Rattle.promises.proofs.RefusingLaws.{by-first}
-use Rattle.promises.proofs.Demand1.{
-  check-refuses,
-  mount-refuses,
-  read-refuses,
-  write-refuses,
-  advance-refuses,
-  ask-room-refuses,
-  save-refuses,
-  load-refuses,
-}
-use Rattle.promises.proofs.Boundary.{
-  refused-header-keeps,
-  refused-mount-keeps,
-  refused-write-keeps,
-  refused-advance-keeps,
-  refused-size-keeps,
-  refused-save-keeps,
-  refused-load-keeps,
-  refused-windows-keep,
-  refused-window-write-keeps,
-}
+use Rattle.promises.proofs.Demand1.{check-refuses, mount-refuses, read-refuses, write-refuses, advance-refuses, ask-room-refuses, save-refuses, load-refuses}
+use Rattle.promises.proofs.Boundary.{refused-header-keeps, refused-mount-keeps, refused-write-keeps, refused-advance-keeps, refused-size-keeps, refused-save-keeps, refused-load-keeps, refused-windows-keep, refused-window-write-keeps}
+use Rattle.shipped.proofs.NumberLaws.{header-some, mount-some, bus-some, save-some}
 
 -- ---- a call's answers as numbers
 
@@ -157,19 +113,6 @@ module _ {R A : Type 0} {numbers : List ℕ} (f : Cartridge → Call R A) (why :
 
 -- ---- the numbers of the refusals: none is 0, and no two are one
 
-header-some : (w : HeaderRefusal) → header.numberOf w ≡ suc (header.numberOf w - 1)
-header-some header-no.TooLong = refl
-header-some header-no.BadLogo = refl
-header-some header-no.BadTitle = refl
-header-some header-no.BadType = refl
-header-some header-no.BadRomCode = refl
-header-some header-no.BadRomSize = refl
-header-some header-no.BadRamCode = refl
-header-some header-no.NeedlessRam = refl
-header-some header-no.BadChecksum = refl
-header-some header-no.Unsupported = refl
-header-some header-no.Beyond = refl
-
 header-refusals : List HeaderRefusal
 header-refusals =
     header-no.TooLong
@@ -199,10 +142,6 @@ header-back header-no.NeedlessRam = refl
 header-back header-no.BadChecksum = refl
 header-back header-no.Unsupported = refl
 header-back header-no.Beyond = refl
-
-mount-some : (w : MountRefusal) → mount.numberOf w ≡ suc (mount.numberOf w - 1)
-mount-some (Header w) = header-some w
-mount-some WrongArea = refl
 
 mount-refusals : List MountRefusal
 mount-refusals =
@@ -235,12 +174,6 @@ mount-back (Header header-no.Unsupported) = refl
 mount-back (Header header-no.Beyond) = refl
 mount-back WrongArea = refl
 
-bus-some : (w : BusRefusal) → access.numberOf w ≡ suc (access.numberOf w - 1)
-bus-some Unfit = refl
-bus-some WrongLength = refl
-bus-some BadAddress = refl
-bus-some BadSelection = refl
-
 bus-back : (w : BusRefusal) → getD (Unfit ∷ WrongLength ∷ BadAddress ∷ BadSelection ∷ []) (access.numberOf w - 13) Unfit ≡ w
 bus-back Unfit = refl
 bus-back WrongLength = refl
@@ -254,15 +187,6 @@ clock-some advancing-no.Late = refl
 clock-back : (w : AdvanceRefusal) → getD (advancing-no.Unfit ∷ []) (clock.numberOf w - 13) advancing-no.Late ≡ w
 clock-back advancing-no.Unfit = refl
 clock-back advancing-no.Late = refl
-
-save-some : (w : SaveRefusal) → admit.numberOf w ≡ suc (admit.numberOf w - 1)
-save-some saving-no.Unfit = refl
-save-some saving-no.WrongLength = refl
-save-some saving-no.NoBattery = refl
-save-some saving-no.ShortSave = refl
-save-some (saving-no.Block block-no.Beyond) = refl
-save-some (saving-no.Block block-no.Late) = refl
-save-some saving-no.ShortRoom = refl
 
 save-refusals : List SaveRefusal
 save-refusals =

@@ -4,17 +4,17 @@ use Rattle.player.proofs.imf_windows.Reads as imf-windows
 use mathlib.Core.List.{List}
 use mathlib.Core.Option.{Option, none, some}
 use mathlib.Core.Path.{_≡_, sym, ap, _∙_, subst}
-use Prim.Native.Nat.{ℕ}
+use Prim.Native.Nat.{ℕ, _<_, _^_}
 use native.Mathlib.Omega.{arith}
 use denote.Ref.{now}
 use Rattle.bytes_le.specs.Little as bytes
 use Rattle.save_file.specs.Admit as admit
 use Rattle.save_file.specs.declared.Loaded.{Loaded}
-use Rattle.bus.specs.Run.{Access, runOf}
+use Rattle.bus.specs.Run.{Access, runOf, Answer}
 use Rattle.player.specs.Save.{loadedNumber}
 use Rattle.runs.specs.Game.{Game, mountedMachine, answerTo, Accepted, Readable, begins}
 use Rattle.runs.specs.Calls as calls
-use Rattle.runs.proofs.RunLaws.{run-called}
+use Rattle.runs.proofs.RunLaws.{run-called, calls-run}
 use Rattle.original_saves.specs.Agrees.{Unseen, CutHarmless}
 use Rattle.original_saves.proofs.Games.{game-agrees}
 use Rattle.player.proofs.imf_mount.Reads as imf-mount
@@ -25,14 +25,18 @@ use Rattle.shipped.specs.Requests.{Reply, requestOf}
 use Rattle.shipped.specs.Requests as request
 use Rattle.shipped.specs.Agrees.{ShippedAgrees}
 use Rattle.shipped.proofs.Made.{all-made-are}
-use Rattle.shipped.proofs.Shipped.{calls-ship}
-use Rattle.shipped.proofs.Saves.{request-ships, serve-sound, save-some}
+use Rattle.shipped.proofs.Shipped.{calls-ship, started-in-time, run-sound}
+use Rattle.shipped.proofs.Saves.{request-ships, serve-sound}
 use Rattle.shipped.proofs.Mounted.{mount-leaves}
 use Rattle.shipped.proofs.MadeSaves.{request-is}
 use Rattle.shipped.specs.Through.{Watched}
 use Rattle.shipped.proofs.MadeThrough.{made-through-ships}
 use Rattle.shipped.specs.Made.{Call, AllMade, MadeRequest, AllMadeThrough}
 use Rattle.shipped.specs.Mounted.{watchedBy, MountsBy, keptBy, gameBy}
+use Rattle.shipped.proofs.NumberLaws.{save-some}
+use Rattle.runs.proofs.BusLaws.{mount-taken, mount-fit}
+use Rattle.cartridge.specs.Fit.{InTime}
+use Rattle.cartridge.specs.declared.Cartridge.{Cartridge}
 
 -- ---- calls on the bytes of a game's beginning
 
@@ -48,6 +52,26 @@ game-ships g file r c h accesses o u =
       is = calls-ship (g .image) m h accesses o;
       agrees = game-agrees g file r c accesses o u (run-called (g .image) m accesses);
     }
+
+-- ---- and what it leaves is sound
+
+game-sound : (g : Game) (file : Option (List ℕ)) → g .wall < 2 ^ 64 → Sound (begins g file)
+game-sound g none h =
+    let t = mount-taken (g .image) (g .area) (g .wall) (g .cart) (g .mounts) in
+    record {
+      fit = mount-fit (g .image) (g .area) (g .wall) (g .cart) (g .mounts);
+      timed =
+          subst (λ (x : Cartridge). InTime (x .mapper)) (sym (t .is)) (started-in-time (t .facts) (length (g .image)) (g .wall) h);
+    }
+game-sound g (some save) h =
+    serve-sound (g .image) (mountedMachine g) (game-sound g none h) (request.loads save (g .wall) 0) tt
+
+-- at any point of a game the time has 64 bits
+pub game-in-time : (g : Game) (file : Option (List ℕ)) → g .wall < 2 ^ 64 → (accesses : List Access) → calls.Octets accesses
+    → {xs : List Answer} {n : Machine} → calls.Calls (g .image) (begins g file) accesses xs n → InTime (n .cart .mapper)
+game-in-time g file h accesses o made =
+    subst (λ (x : Machine). InTime (x .cart .mapper)) (sym (calls-run made .1))
+    (run-sound (g .image) (begins g file) (game-sound g file h) accesses o .timed)
 
 -- ---- calls that were made, each as the contract of its exported function says
 

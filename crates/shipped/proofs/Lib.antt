@@ -1,4 +1,5 @@
 pub mod AlongLaws
+pub mod NumberLaws
 pub mod InTimeLaws
 pub mod PlainLaws
 pub mod StepLaws

@@ -1,12 +1,7 @@
 -- What ships, with saves out and in among the calls. Assumes nothing.
-use native.Mathlib.Omega.{arith}
-use Rattle.save_file.specs.Admit as admit
-use Rattle.save_file.specs.declared.SaveRefusal.{SaveRefusal}
-use Rattle.save_file.specs.declared.SaveRefusal.the-variants as saving
-use Rattle.clock_block.specs.declared.BlockRefusal.the-variants as block
 use mathlib.Core.List.{List, []}
 use mathlib.Core.Path.{_≡_, refl, sym, ap, _∙_, subst}
-use Prim.Native.Nat.{ℕ, _<_}
+use Prim.Native.Nat.{ℕ}
 use lib.ListN.{length}
 use Rattle.cartridge.specs.declared.Cartridge.{Cartridge}
 use Rattle.save_file.specs.Save as save
@@ -106,13 +101,3 @@ pub requests-ship : (image : List ℕ) (m : Machine) → Sound m → (qs : List 
 requests-ship image m h qs o =
     along-ships (requestOf image) (serveOf image) keptOf Sound Octet Octets (λ q rest os. os) (λ k s q _. request-ships image k s q)
     (serve-sound image) m h qs o
-
--- A refusal has a number.
-pub save-some : (w : SaveRefusal) → 0 < admit.numberOf w
-save-some saving.Unfit = omega arith
-save-some saving.WrongLength = omega arith
-save-some saving.NoBattery = omega arith
-save-some saving.ShortSave = omega arith
-save-some (saving.Block block.Beyond) = omega arith
-save-some (saving.Block block.Late) = omega arith
-save-some saving.ShortRoom = omega arith

@@ -11,12 +11,9 @@ use Rattle.mapper.specs.declared.Mapper.{Mapper}
 use Rattle.cartridge.specs.Fit.{fitCart, InTime}
 use Rattle.cartridge.specs.declared.Cartridge.{Cartridge}
 use Rattle.header.specs.declared.Facts.{Facts}
-use Rattle.header.specs.declared.HeaderRefusal.the-variants as header
 use Rattle.mount.specs.Mount as mount
 use Rattle.mount.specs.declared.Mounted.{Mounted}
 use Rattle.mount.specs.declared.Mounted.the-variants as mounted
-use Rattle.mount.specs.declared.MountRefusal.{MountRefusal}
-use Rattle.mount.specs.declared.MountRefusal.the-variants as mount-refusal
 use Rattle.bus.specs.Bus as bus
 use Rattle.bus.specs.Advance as advance
 use Rattle.bus.specs.Run.{Access, Answer, Machine, stepOf, runOf}
@@ -43,6 +40,7 @@ use Rattle.shipped.proofs.WidthLaws.{decoded-has}
 use Rattle.shipped.specs.Along.{Outs, outs, before, along}
 use Rattle.shipped.proofs.AlongLaws.{along-ships, along-stays}
 use Rattle.shipped.specs.Mounted.{Mounts}
+use Rattle.shipped.proofs.NumberLaws.{mount-some}
 
 -- ---- 1. any list of calls
 
@@ -91,20 +89,6 @@ pub started-in-time : (d : Facts) (n wall : ℕ) → wall < 2 ^ 64 → InTime (m
 unfolding mount.cartOf
 started-in-time d n wall h = timing.start-in-time (d .kind) (d .multicart) wall h
 
-some-number : (w : MountRefusal) → 0 < mount.numberOf w
-some-number (mount-refusal.Header header.TooLong) = omega arith
-some-number (mount-refusal.Header header.BadLogo) = omega arith
-some-number (mount-refusal.Header header.BadTitle) = omega arith
-some-number (mount-refusal.Header header.BadType) = omega arith
-some-number (mount-refusal.Header header.BadRomCode) = omega arith
-some-number (mount-refusal.Header header.BadRomSize) = omega arith
-some-number (mount-refusal.Header header.BadRamCode) = omega arith
-some-number (mount-refusal.Header header.NeedlessRam) = omega arith
-some-number (mount-refusal.Header header.BadChecksum) = omega arith
-some-number (mount-refusal.Header header.Unsupported) = omega arith
-some-number (mount-refusal.Header header.Beyond) = omega arith
-some-number mount-refusal.WrongArea = omega arith
-
 pub mount-ships : (s image ram : List ℕ) (wall : ℕ) → wall < 2 ^ 64 → mountOf image ram wall ≡ 0 → Mounts s image ram wall
 unfolding mountOf stateMounted
 mount-ships s image ram wall h e = go (mount.mountOf image ram wall) refl e
@@ -122,7 +106,7 @@ mount-ships s image ram wall h e = go (mount.mountOf image ram wall) refl e
                 timed = subst (λ (x : Cartridge). InTime (x .mapper)) (sym (t .is)) (started-in-time (t .facts) (length image) wall h);
               };
         }
-    go (mounted.Refuse w) p q = absurd (omega (arith, q, some-number w))
+    go (mounted.Refuse w) p q = absurd (omega (arith, q, mount-some w))
 
 -- ---- 3. refused calls
 
