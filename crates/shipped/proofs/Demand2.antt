@@ -1,5 +1,6 @@
 -- Demand 2 of what ships: an image that `imf_mount` takes, a save that `imf_save_in` takes or none, and any list of reads, writes and
 -- advances through the exported calls. Assumes nothing.
+use lib.ListN.{length}
 use Rattle.player.proofs.imf_windows.Reads as imf-windows
 use mathlib.Core.List.{List}
 use mathlib.Core.Option.{Option, none, some}
@@ -10,7 +11,7 @@ use denote.Ref.{now}
 use Rattle.bytes_le.specs.Little as bytes
 use Rattle.save_file.specs.Admit as admit
 use Rattle.save_file.specs.declared.Loaded.{Loaded}
-use Rattle.bus.specs.Run.{Access, runOf, Answer}
+use Rattle.bus.specs.Run.{Access, runOf, Answer, Machine}
 use Rattle.player.specs.Save.{loadedNumber}
 use Rattle.runs.specs.Game.{Game, mountedMachine, answerTo, Accepted, Readable, begins}
 use Rattle.runs.specs.Calls as calls
