@@ -56,16 +56,18 @@ game-ships g file r c h accesses o u =
 
 -- ---- and what it leaves is sound
 
-game-sound : (g : Game) (file : Option (List ℕ)) → g .wall < 2 ^ 64 → Sound (begins g file)
-game-sound g none h =
+mounted-sound : (g : Game) → g .wall < 2 ^ 64 → Sound (mountedMachine g)
+mounted-sound g h =
     let t = mount-taken (g .image) (g .area) (g .wall) (g .cart) (g .mounts) in
     record {
       fit = mount-fit (g .image) (g .area) (g .wall) (g .cart) (g .mounts);
       timed =
           subst (λ (x : Cartridge). InTime (x .mapper)) (sym (t .is)) (started-in-time (t .facts) (length (g .image)) (g .wall) h);
     }
-game-sound g (some save) h =
-    serve-sound (g .image) (mountedMachine g) (game-sound g none h) (request.loads save (g .wall) 0) tt
+
+game-sound : (g : Game) (file : Option (List ℕ)) → g .wall < 2 ^ 64 → Sound (begins g file)
+game-sound g none h = mounted-sound g h
+game-sound g (some save) h = serve-sound (g .image) (mountedMachine g) (mounted-sound g h) (request.loads save (g .wall) 0) tt
 
 -- at any point of a game the time has 64 bits
 pub game-in-time : (g : Game) (file : Option (List ℕ)) → g .wall < 2 ^ 64 → (accesses : List Access) → calls.Octets accesses
