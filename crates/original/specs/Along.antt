@@ -1,10 +1,10 @@
 -- The Rust along a game: what it begins with, and what one access leaves.
 use mathlib.Core.List.{List}
 use mathlib.Core.Path.{_≡_}
+use Prim.Native.Nat.{ℕ}
 use Rattle.header.specs.Check.{checkOf}
 use Rattle.header.specs.declared.Facts.{Facts}
 use Rattle.header.specs.declared.Checked.the-variants.{Accept}
-use Prim.Native.Nat.{ℕ}
 use Rattle.bus.specs.Run.{Access}
 use Rattle.bus.specs.Run as run
 use Rattle.runs.specs.Game.{Game, mountedMachine}

@@ -25,12 +25,12 @@ use Rattle.runs.specs.Calls.{Calls}
 use Rattle.runs.specs.Calls as calls
 use Rattle.runs.proofs.RunLaws.{mount-ready}
 use Rattle.runs.proofs.SaveLaws.{load-ready}
+use Rattle.runs.specs.Kept.{keptAnswers}
 use Rattle.original.specs.Machine.{ok, u64}
 use Rattle.original.specs.Cartridge.{Cartridge}
 use Rattle.original.specs.Step.{originalRun}
 use Rattle.original.proofs.StartLaws.{start-same}
 use Rattle.board.proofs.Board.{same-beside, all-held}
-use Rattle.runs.specs.Kept.{keptAnswers}
 use Rattle.original_saves.specs.SramFile.{saveSramFile}
 use Rattle.original_saves.specs.Written.{WritesRam, BlockOurs}
 use Rattle.original_saves.specs.ReadIn.{Harmless, CutBlock, Prompt}

@@ -1,5 +1,4 @@
 -- A clock into which the block of a save was read, at a wall time: ours, and the Rust's.
-use mathlib.Core.List.{List}
 use Prim.Native.Nat.{ℕ}
 use Rattle.clock.specs.Access.{shownOf}
 use Rattle.clock.specs.declared.Clock.{Clock}

@@ -3,22 +3,22 @@ use mathlib.Core.Bool.{Bool, true, false}
 use mathlib.Core.Path.{_≡_, refl, sym, ap}
 use Prim.Native.Nat.{ℕ, _+_, _%_, _<_, _≤_}
 use native.Mathlib.Omega.{arith}
+use borrow.Author.Tests.{ne-eqb, lt-ltb, le-ltb}
 use Rattle.facts.specs.Counter.{carries, step, stepIf}
 use Rattle.facts.proofs.ChoiceLaws.{either-true, either-false}
-use Rattle.clock.specs.Fit.{fitClock}
-use Rattle.clock_registers.specs.Seconds.{secondOn, secondsOn}
-use Rattle.clock.specs.Ticking.{moving, tick, ticks, advanceOf}
-use Rattle.clock_registers.specs.declared.Registers.{Registers}
-use Rattle.clock.specs.declared.Advanced.the-variants.{To}
-use Rattle.clock.proofs.AnswerLaws.{taken-answer}
-use Rattle.runs.specs.Time.{secondsOf}
-use Rattle.runs.proofs.TimeLaws.{taken-seconds}
-use borrow.Author.Tests.{ne-eqb, lt-ltb, le-ltb}
 use Rattle.facts.specs.Banking.{placeOf}
 use Rattle.banking.specs.Banks.{orOne}
+use Rattle.clock_registers.specs.Seconds.{secondOn, secondsOn}
+use Rattle.clock_registers.specs.declared.Registers.{Registers}
+use Rattle.clock.specs.Fit.{fitClock}
+use Rattle.clock.specs.Ticking.{moving, tick, ticks, advanceOf}
+use Rattle.clock.specs.declared.Advanced.the-variants.{To}
+use Rattle.clock.proofs.AnswerLaws.{taken-answer}
 use Rattle.mbc1.specs.Registers as mbc1
 use Rattle.mbc1.specs.declared.Mbc1 as declared
 use Rattle.mapper.specs.Mappers.{bankAt}
+use Rattle.runs.specs.Time.{secondsOf}
+use Rattle.runs.proofs.TimeLaws.{taken-seconds}
 use Rattle.promises.specs.Bench.{at, clockOf, All, rows}
 
 stored : (m : declared.Mbc1) (addr : ℕ) → m .multicart ≡ true → 0x2000 ≤ addr → addr < 0x4000

@@ -1,10 +1,6 @@
 -- What a player gets that keeps a cartridge as bytes. The theorems speak of `stateMounted`, `writeOf`, `stateWritten` and the like: the
 -- contracts of `imf_mount`, `imf_write` and so on say that their answers, and every lent byte, equal these on all inputs. Assumes
 -- nothing.
-use Rattle.header.specs.declared.Checked.the-variants as checked
-use Rattle.header.specs.declared.Checked.{Checked}
-use Rattle.header.specs.Check.{checkOf}
-use Rattle.facts.proofs.ChoiceLaws.{pick-has, both-left}
 use borrow.Author.Tests.{ltb-true, leb-true}
 use lib.Dec.{ltb, leb}
 use mathlib.Core.Bool.{Bool, true, false}
@@ -14,26 +10,17 @@ use mathlib.Core.Path.{_≡_, refl, sym, ap, _∙_, subst}
 use Prim.Native.Nat.{ℕ, suc, _<_, _≤_, _^_, zero, _%_}
 use native.Mathlib.Omega.{arith}
 use lib.ListN.{length, getD, set}
+use Rattle.facts.proofs.ChoiceLaws.{pick-has, both-left}
 use Rattle.facts.specs.Choice.{pick, both}
+use Rattle.header.specs.declared.Checked.the-variants as checked
+use Rattle.header.specs.declared.Checked.{Checked}
+use Rattle.header.specs.Check.{checkOf}
 use Rattle.mapper.specs.declared.Mapper.{Mapper}
 use Rattle.mapper.specs.Mappers as mapper
 use Rattle.window.specs.Window as window
 use Rattle.cartridge.specs.Fit.{fitCart, areaOf, InTime}
 use Rattle.cartridge.specs.With.{withMapper}
 use Rattle.cartridge.specs.declared.Cartridge.{Cartridge}
-use Rattle.mount.specs.Mount as mount
-use Rattle.mount.specs.declared.Mounted.{Mounted}
-use Rattle.mount.specs.declared.Mounted.the-variants as mounted
-use Rattle.access.specs.Verdict.{inRam}
-use Rattle.access.specs.declared.BusRefusal.the-variants.{BadAddress}
-use Rattle.bus.specs.Bus as bus
-use Rattle.bus.specs.Advance as advance
-use Rattle.bus.specs.Run.{Ready}
-use Rattle.bus.specs.declared.ReadAnswer.the-variants as read
-use Rattle.bus.specs.declared.WriteAnswer.{WriteAnswer}
-use Rattle.bus.specs.declared.WriteAnswer.the-variants as write
-use Rattle.bus.specs.declared.Advanced.{Advanced}
-use Rattle.bus.specs.declared.Advanced.the-variants as advanced
 use Rattle.save_file.specs.Save as save
 use Rattle.save_file.specs.Load as load
 use Rattle.save_file.specs.declared.Room.{Room}
@@ -42,33 +29,44 @@ use Rattle.save_file.specs.declared.Saved.{Saved}
 use Rattle.save_file.specs.declared.Saved.the-variants as saved
 use Rattle.save_file.specs.declared.Loaded.{Loaded}
 use Rattle.save_file.specs.declared.Loaded.the-variants as loaded
+use Rattle.mount.specs.Mount as mount
+use Rattle.mount.specs.declared.Mounted.{Mounted}
+use Rattle.mount.specs.declared.Mounted.the-variants as mounted
+use Rattle.access.specs.Verdict.{inRam}
+use Rattle.access.specs.declared.BusRefusal.the-variants.{BadAddress}
+use Rattle.bus.specs.Bus as bus
+use Rattle.bus.specs.Advance as advance
+use Rattle.bus.specs.Run.{Ready}
+use Rattle.bus.specs.declared.WriteAnswer.{WriteAnswer}
+use Rattle.bus.specs.declared.WriteAnswer.the-variants as write
+use Rattle.bus.specs.declared.Advanced.{Advanced}
+use Rattle.bus.specs.declared.Advanced.the-variants as advanced
 use Rattle.states.specs.Layout.{encodeOf}
 use Rattle.states.specs.Reading.{decodeOf}
 use Rattle.states.specs.Plain.{plain}
 use Rattle.states.specs.declared.Decoded.{Decoded}
 use Rattle.states.specs.declared.Decoded.the-variants.{To, NoState}
 use Rattle.states.proofs.Back.{decode-encode, encode-plain, fit-plain, fit-widths}
+use Rattle.states.specs.OnState.{onState}
+use Rattle.flat_write.specs.Calls.{writeState, stateWritten, areaWritten, timed, advanceState, stateAdvanced}
+use Rattle.flat_write.proofs.Laws.{timed-on, untimed-taken}
 use Rattle.windows.specs.Windows.{windowsOf, askOf, asksOf}
 use Rattle.windows.specs.Through.{placeIn, seenOf, fromRead, putBy, putOf, areaBy, areaAfter}
 use Rattle.windows.specs.declared.Windows.{Windows}
 use Rattle.windows.specs.declared.Asked.{Asked}
 use Rattle.windows.specs.declared.Asked.the-variants as asked
-use Rattle.windows.specs.declared.Seen.the-variants as seen
 use Rattle.windows.specs.declared.Put.the-variants as put
 use Rattle.windows.proofs.Same.{window-read, only-15, window-write, unasked-write-keeps, windows-stay-in-ram-write, windows-stay-in-advance}
-use Rattle.states.specs.OnState.{onState}
-use Rattle.flat_write.specs.Calls.{writeState, stateWritten, areaWritten, timed, advanceState, stateAdvanced}
-use Rattle.flat_write.proofs.Laws.{timed-on, untimed-taken}
 use Rattle.player.specs.Bus.{mountNumber, mountState, mountOf, stateMounted, readNumber, readOf, writeNumber, writeOf, advanceNumber, advanceOf}
 use Rattle.player.specs.Header.{headerBy, headerOf, factsBy, factsAfter}
 use Rattle.player.specs.Save.{roomNumber, roomSize, sizeOf, sizeAsked, savedNumber, savedSize, saveOf, roomSaved, sizeSaved, loadedNumber, loadedState, loadedClock, loadOf, stateLoaded, areaLoaded, clockLoaded}
 use Rattle.player.specs.Windows.{windowsIn, seenNumber, putNumber, askedNumber, askedWindows, windowsNumber, windowsAfter, windowRead, windowWrite, areaThrough}
 use Rattle.runs.proofs.BusLaws as laws
 use Rattle.runs.proofs.SaveLaws as saves
-use Rattle.promises.specs.Boundary.{Wrote, Comes}
 use Rattle.shipped.proofs.InTimeLaws as timing
 use Rattle.shipped.proofs.Shipped.{started-in-time}
 use Rattle.shipped.proofs.Through.{number-same, asked-or}
+use Rattle.promises.specs.Boundary.{Wrote, Comes}
 
 -- 1. "bytes that one of the calls wrote decode to a fit state and encode to themselves":
 pub wrote-comes : (t : List ℕ) → Wrote t → Comes t

@@ -4,25 +4,25 @@
 -- contract. The rest is one statement, `Refusing`, and an instance of it for each call that refuses. The calls of `PublicCalls`
 -- speak of definitions (`checkOf`, `mountOf`, ..): the contracts say that the code's answers, and every lent byte, equal these on
 -- all inputs. Assumes nothing.
-use Rattle.save_file.specs.declared.Room.the-variants as room
 use mathlib.Core.Bool.{true, false}
 use mathlib.Core.List.{List, [], _∷_}
 use mathlib.Core.Logic.{_⊎_, inl, inr, _↔_}
 use mathlib.Core.Path.{_≡_, refl, sym, ap}
-use Prim.Native.Nat.{ℕ, _+_, _*_, _<_, _≤_}
+use Prim.Native.Nat.{ℕ, _*_, _<_, _≤_}
 use native.Mathlib.Omega.{arith}
 use lib.ListN.{length, drop, replicate}
 use borrow.Author.Tests.{eqb-true}
 use Rattle.facts.specs.Choice.{pick, either}
 use Rattle.facts.specs.Refusals.{firstNo, anyNo, First}
 use Rattle.facts.proofs.RefusalLaws.{none-or-first, first-map}
+use Rattle.trace.proofs.NoesLaws.{next-is-first, taken-is-none}
+use Rattle.banking.specs.Banks.{romPlace}
+use Rattle.banking.proofs.Laws.{rom-inside}
 use Rattle.clock.specs.Ticking as clock
 use Rattle.clock.specs.declared.Clock.{Clock}
 use Rattle.clock_block.specs.Waking as block
 use Rattle.clock_block.specs.declared.Block.{Block}
 use Rattle.image.specs.Image.{paddedLength}
-use Rattle.banking.specs.Banks.{romPlace}
-use Rattle.banking.proofs.Laws.{rom-inside}
 use Rattle.header.specs.Check as header
 use Rattle.header.specs.Check.{checkOf}
 use Rattle.header.specs.Accepted.{testsOf}
@@ -33,10 +33,16 @@ use Rattle.header.proofs.CheckLaws.{no-1}
 use Rattle.mapper.specs.Mappers as mapper
 use Rattle.window.specs.Window.{wayOf, Within}
 use Rattle.window.proofs.Laws.{way-within}
-use Rattle.battery.specs.Battery.{clockIn, batterySize}
 use Rattle.cartridge.specs.Fit.{fitCart, areaOf}
 use Rattle.cartridge.specs.declared.Cartridge.{Cartridge}
 use Rattle.cartridge.proofs.Laws.{fit-banks, fit-padded}
+use Rattle.save_file.specs.declared.Room.the-variants as room
+use Rattle.save_file.specs.Admit.{admitNoes}
+use Rattle.save_file.specs.Save.{bytesOf, saveNoes, saveOf, roomBy, roomAfter, roomFor}
+use Rattle.save_file.specs.Load as load
+use Rattle.save_file.specs.Load.{loadNoes, acceptedOf, loadOf}
+use Rattle.save_file.specs.declared.Saved.the-variants as saved
+use Rattle.save_file.specs.declared.Loaded.the-variants as loaded
 use Rattle.mount.specs.Mount as mount
 use Rattle.mount.specs.Mount.{cartOf, mountOf}
 use Rattle.mount.specs.declared.Area.the-variants as area
@@ -50,13 +56,11 @@ use Rattle.bus.specs.Run.{Access, Machine, stepOf, runOf, Ready}
 use Rattle.bus.specs.Run as run
 use Rattle.bus.specs.declared.WriteAnswer.the-variants as write
 use Rattle.bus.specs.declared.Advanced.the-variants as advanced
-use Rattle.save_file.specs.Admit.{admitNoes}
-use Rattle.save_file.specs.Save.{bytesOf, saveNoes, saveOf, roomBy, roomAfter, roomFor}
-use Rattle.save_file.specs.Load as load
-use Rattle.save_file.specs.Load.{loadNoes, acceptedOf, loadOf}
-use Rattle.save_file.proofs.Laws.{room-length}
-use Rattle.save_file.specs.declared.Saved.the-variants as saved
-use Rattle.save_file.specs.declared.Loaded.the-variants as loaded
+use Rattle.replay_step.specs.Step.{machine}
+use Rattle.replay_program.specs.Written.{notRead, fileLine, writtenOf, ramAfter}
+use Rattle.replay_program.specs.declared.File.{File}
+use Rattle.replay_program.proofs.Apart.{one-refusal, text-is-no-refusal}
+use Rattle.replay_program.proofs.Theorems.{file-exactly, file-keeps, refused-keeps}
 use Rattle.runs.specs.Calls.{Octets, AllNeither}
 use Rattle.runs.proofs.BusLaws as laws
 use Rattle.runs.proofs.RunLaws as sequence
@@ -90,12 +94,6 @@ use Rattle.promises.proofs.RefusingLaws.{
   replay-is-first,
   asked-saves,
 }
-use Rattle.trace.proofs.NoesLaws.{next-is-first, taken-is-none}
-use Rattle.replay_step.specs.Step.{machine}
-use Rattle.replay_program.specs.Written.{notRead, fileLine, writtenOf, ramAfter}
-use Rattle.replay_program.specs.declared.File.{File}
-use Rattle.replay_program.proofs.Apart.{one-refusal, text-is-no-refusal}
-use Rattle.replay_program.proofs.Theorems.{file-exactly, file-keeps, refused-keeps}
 
 -- 1. "Each bad input gets its number". Every input of a call of which the statement holds gets the answer, or the number of the
 -- first test that holds.

@@ -2,9 +2,6 @@
 -- accesses in 01's domain, proved against definitions." First what the definitions say, then that the Rust, written down as
 -- definitions in `original`, answers alike. The theorems speak of `checkOf`, `mountOf`, `runOf` and what is below them: the contracts
 -- say that the code's answers, and every byte of the lent RAM area, equal these on all inputs. Assumes nothing.
-use Rattle.clock.specs.declared.Clock.{Clock}
-use Rattle.save_file.specs.declared.Saved.the-variants.{Wrote}
-use Rattle.save_file.specs.Save.{saveOf, roomAfter}
 use mathlib.Core.Bool.{Bool, true, false}
 use mathlib.Core.List.{List}
 use mathlib.Core.Logic.{_↔_, _⊎_}
@@ -13,7 +10,13 @@ use mathlib.Core.Path.{_≡_, refl, ap}
 use Prim.Native.Nat.{ℕ, _+_, _%_, _^_, _<_, _≤_}
 use lib.Count.{ones, trailingZeros}
 use lib.ListN.{getD, length, take, drop, replicate}
+use denote.Ref.{now}
 use Rattle.bytes_le.specs.Little as bytes
+use Rattle.banking.specs.Banks.{orOne}
+use Rattle.clock.specs.declared.Clock.{Clock}
+use Rattle.clock_block.specs.Layout.{blockIn}
+use Rattle.clock_block.specs.Waking.{late, blockOf}
+use Rattle.clock_block.specs.declared.BlockRefusal.the-variants.{Late}
 use Rattle.utf8.specs.Utf8.{Octets, isUtf8}
 use Rattle.utf8.proofs.Grammar.{takes, has}
 use Rattle.image.specs.Image.{byteAt, paddedLength, sumFrom, checksumOf}
@@ -29,12 +32,15 @@ use Rattle.header.specs.declared.Checked.the-variants.{Accept, Refuse}
 use Rattle.header.proofs.SizeLaws.{mends-power, power-mends}
 use Rattle.header.proofs.AcceptedLaws.{accepted-only, accepted-fits}
 use Rattle.header.proofs.LocalLaws.{same-verdict}
-use Rattle.banking.specs.Banks.{orOne}
 use Rattle.mbc1.specs.Registers as mbc1
-use Rattle.clock_block.specs.Layout.{blockIn}
-use Rattle.clock_block.specs.Waking.{late, blockOf}
+use Rattle.mbc2.specs.declared.Mbc2.{Mbc2}
+use Rattle.mapper.specs.declared.Mapper.the-variants as mapper
 use Rattle.battery.specs.Battery.{clockIn, hasClock}
 use Rattle.cartridge.specs.declared.Cartridge.{Cartridge}
+use Rattle.save_file.specs.declared.Saved.the-variants.{Wrote}
+use Rattle.save_file.specs.Save.{saveOf, roomAfter}
+use Rattle.save_file.specs.declared.SaveRefusal.the-variants.{NoBattery, ShortSave, Block}
+use Rattle.save_file.specs.declared.Loaded.the-variants as save-no
 use Rattle.mount.specs.Mount as mount
 use Rattle.mount.specs.Mount.{mountOf}
 use Rattle.mount.specs.declared.Mounted.{Mounted}
@@ -42,6 +48,9 @@ use Rattle.mount.specs.declared.Mounted.the-variants as mounted
 use Rattle.bus.specs.Bus.{areaAfter}
 use Rattle.bus.specs.Run.{Access, Answer, Machine, stepOf, runOf, Ready}
 use Rattle.bus.specs.Run as run
+use Rattle.player.specs.Header.{factsAfter}
+use Rattle.player.proofs.imf_mount.Reads as imf-mount
+use Rattle.player.proofs.imf_windows.Reads as imf-windows
 use Rattle.runs.specs.Padded.{padded}
 use Rattle.runs.specs.Limits.{Within}
 use Rattle.runs.specs.Game.{Game, mountedMachine, answerTo, Accepted, Readable, begins}
@@ -60,6 +69,8 @@ use Rattle.original.specs.Beyond.{BeyondGives}
 use Rattle.original.specs.Verdict.{numberOf, cartridgeOf, ImageInDomain}
 use Rattle.original.proofs.Original as original
 use Rattle.original.specs.Step.{originalStep, originalRun}
+use Rattle.original.specs.Mapper as original-mapper
+use Rattle.original.specs.Mbc3 as rust-mbc3
 use Rattle.board.specs.Reach.{InReach}
 use Rattle.board.specs.Beside.{SameBoard}
 use Rattle.board.specs.Alike.{RunsBeside}
@@ -72,22 +83,11 @@ use Rattle.original_saves.specs.Written.{WritesRam, BlockOurs}
 use Rattle.original_saves.specs.ReadIn.{CutInTime, CutBlock, Prompt, ReadsRam}
 use Rattle.original_saves.specs.Agrees.{given, ClockHolds, NothingDue, Unseen, CutHarmless, GameAgrees}
 use Rattle.original_saves.proofs.StopLaws as stop
-use Rattle.original.specs.Mapper as original-mapper
-use Rattle.original.specs.Mbc3 as rust-mbc3
-use Rattle.mapper.specs.declared.Mapper.the-variants as mapper
-use Rattle.mbc2.specs.declared.Mbc2.{Mbc2}
-use Rattle.clock_block.specs.declared.BlockRefusal.the-variants.{Late}
-use Rattle.save_file.specs.declared.SaveRefusal.the-variants.{NoBattery, ShortSave, Block}
-use Rattle.save_file.specs.declared.Loaded.the-variants as save-no
 use Rattle.original_saves.proofs.RefusedLaws as saves
 use Rattle.original_saves.proofs.Games as games
-use Rattle.player.specs.Header.{factsAfter}
 use Rattle.title_part.specs.Part.{TitlePart}
 use Rattle.title_part.specs.Answered.{AnswersTitle}
 use Rattle.title_part.proofs.Title as title
-use denote.Ref.{now}
-use Rattle.player.proofs.imf_mount.Reads as imf-mount
-use Rattle.player.proofs.imf_windows.Reads as imf-windows
 use Rattle.shipped.specs.Along.{Out, Outs, outs}
 use Rattle.shipped.specs.Sequence.{Kept}
 use Rattle.shipped.specs.Ships.{keptOf}

@@ -18,13 +18,19 @@ use Rattle.clock.specs.Ticking as clock
 use Rattle.clock.specs.declared.AdvanceRefusal.{AdvanceRefusal}
 use Rattle.clock.specs.declared.AdvanceRefusal.the-variants as advancing-no
 use Rattle.clock_block.specs.declared.BlockRefusal.the-variants as block-no
+use Rattle.image.specs.Image.{byteAt}
 use Rattle.header.specs.Check as header
 use Rattle.header.specs.declared.HeaderRefusal.{HeaderRefusal}
 use Rattle.header.specs.declared.HeaderRefusal.the-variants as header-no
-use Rattle.image.specs.Image.{byteAt}
 use Rattle.battery.specs.Battery.{hasBlock}
 use Rattle.cartridge.specs.Fit.{fitCart}
 use Rattle.cartridge.specs.declared.Cartridge.{Cartridge}
+use Rattle.save_file.specs.Admit as admit
+use Rattle.save_file.specs.Load as load
+use Rattle.save_file.specs.Load.{acceptedOf}
+use Rattle.save_file.specs.declared.Loaded.{Loaded}
+use Rattle.save_file.specs.declared.SaveRefusal.{SaveRefusal}
+use Rattle.save_file.specs.declared.SaveRefusal.the-variants as saving-no
 use Rattle.mount.specs.Mount as mount
 use Rattle.mount.specs.declared.MountRefusal.{MountRefusal}
 use Rattle.mount.specs.declared.MountRefusal.the-variants.{Header, WrongArea}
@@ -34,35 +40,29 @@ use Rattle.access.specs.declared.BusRefusal.the-variants.{Unfit, WrongLength, B
 use Rattle.access.specs.declared.Verdict.{Verdict}
 use Rattle.bus.specs.Bus as bus
 use Rattle.bus.specs.Bus.{writeBy}
-use Rattle.save_file.specs.Admit as admit
-use Rattle.save_file.specs.Load as load
-use Rattle.save_file.specs.Load.{acceptedOf}
-use Rattle.save_file.specs.declared.Loaded.{Loaded}
-use Rattle.save_file.specs.declared.SaveRefusal.{SaveRefusal}
-use Rattle.save_file.specs.declared.SaveRefusal.the-variants as saving-no
 use Rattle.states.specs.Reading.{decodeOf}
 use Rattle.states.specs.declared.Decoded.{Decoded}
 use Rattle.states.specs.declared.Decoded.the-variants.{To, NoState}
 use Rattle.states.specs.OnState.{onState}
-use Rattle.player.specs.Header.{headerBy, headerOf}
 use Rattle.windows.specs.Windows.{windowsOf, askOf}
 use Rattle.windows.specs.Through.{placeIn, romStart, ramSeen, seenOf, putBy, putOf}
 use Rattle.windows.specs.declared.Windows.{Windows}
 use Rattle.windows.specs.declared.Seen.the-variants as seen
 use Rattle.windows.specs.declared.Put.the-variants as put
 use Rattle.windows.specs.declared.Asked.the-variants as asked
+use Rattle.player.specs.Header.{headerBy, headerOf}
 use Rattle.player.specs.Bus.{mountNumber, mountOf, readNumber, readOf, writeNumber, writeOf, advanceNumber, advanceOf}
 use Rattle.player.specs.Save.{roomNumber, sizeOf, savedNumber, saveOf, loadedNumber, loadOf}
 use Rattle.player.specs.Windows.{windowsIn, askedNumber, windowsNumber, seenNumber, putNumber, windowRead, windowWrite, areaThrough}
 use Rattle.shipped.proofs.WidthLaws.{decoded-widths}
 use Rattle.shipped.proofs.ByteLaws.{octets-or, read-lt}
+use Rattle.shipped.proofs.NumberLaws.{header-some, mount-some, bus-some, save-some}
 use Rattle.promises.specs.Refusing.{Call, Refusing}
 use Rattle.promises.specs.PublicCalls.{checking, mounting, reading, writing, advancing, saving, sizing, loading}
 use Rattle.promises.specs.ExportedCalls.{inNumbers, onBytes, imfHeader, imfMount, busNone, imfWrite, imfAdvance, imfSaveSize, imfSaveOut, loadNone, imfSaveIn, readRefused, imfRead, windowsNo, imfWindows, outside, outsideNo, outsideRead, askState, ramByte, byteThrough, ramTaken, takenThrough, imfWindowRead, imfWindowWrite}
 use Rattle.promises.proofs.RefusingLaws.{by-first}
 use Rattle.promises.proofs.Demand1.{check-refuses, mount-refuses, read-refuses, write-refuses, advance-refuses, ask-room-refuses, save-refuses, load-refuses}
 use Rattle.promises.proofs.Boundary.{refused-header-keeps, refused-mount-keeps, refused-write-keeps, refused-advance-keeps, refused-size-keeps, refused-save-keeps, refused-load-keeps, refused-windows-keep, refused-window-write-keeps}
-use Rattle.shipped.proofs.NumberLaws.{header-some, mount-some, bus-some, save-some}
 
 -- ---- a call's answers as numbers
 

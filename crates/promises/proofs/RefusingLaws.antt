@@ -8,6 +8,7 @@ use mathlib.Core.Path.{_≡_, refl, sym, ap, _∙_}
 use Prim.Native.Nat.{ℕ, _+_, _≤_}
 use lib.Dec.{eqb, ltb}
 use lib.ListN.{length, replicate}
+use borrow.Author.Tests.{ltb-true, ltb-false, le-ltb}
 use Rattle.facts.specs.Choice.{pick}
 use Rattle.facts.specs.Refusals.{No, no, firstNo, anyNo, inWords, First}
 use Rattle.facts.proofs.ChoiceLaws.{false≢true, pick-has, not-false}
@@ -16,8 +17,20 @@ use Rattle.header.specs.Check.{checkOf}
 use Rattle.header.specs.Accepted.{testsOf}
 use Rattle.header.specs.declared.Checked.{Checked}
 use Rattle.header.specs.declared.Checked.the-variants as checked
+use Rattle.battery.specs.Battery.{hasBlock, clockIn, batterySize}
 use Rattle.cartridge.specs.Fit.{areaOf, fitCart}
 use Rattle.cartridge.specs.declared.Cartridge.{Cartridge}
+use Rattle.save_file.specs.Admit.{admitNoes}
+use Rattle.save_file.specs.Save.{bytesOf, saveNoes, saveOf, askNoes, roomFor}
+use Rattle.save_file.specs.Load.{acceptedOf}
+use Rattle.save_file.proofs.Laws.{room-length}
+use Rattle.save_file.specs.declared.Room.{Room}
+use Rattle.save_file.specs.declared.Room.the-variants as room
+use Rattle.save_file.specs.declared.Saved.the-variants as saved
+use Rattle.save_file.specs.declared.SaveRefusal.{SaveRefusal}
+use Rattle.save_file.specs.declared.SaveRefusal.the-variants.{NoBattery, ShortRoom}
+use Rattle.save_file.specs.declared.Loaded.{Loaded}
+use Rattle.save_file.specs.declared.Loaded.the-variants as loaded
 use Rattle.mount.specs.Mount.{cartOf, mountBy, mountOf}
 use Rattle.mount.specs.declared.MountRefusal.the-variants.{Header, WrongArea}
 use Rattle.mount.specs.declared.Mounted.the-variants as mounted
@@ -28,24 +41,12 @@ use Rattle.access.specs.declared.Verdict.the-variants.{Rom, Ram}
 use Rattle.bus.specs.Bus.{readBy, writeBy}
 use Rattle.bus.specs.declared.ReadAnswer.the-variants as read
 use Rattle.bus.specs.declared.WriteAnswer.the-variants as write
-use Rattle.battery.specs.Battery.{hasBlock, clockIn, batterySize}
-use Rattle.save_file.specs.Admit.{admitNoes}
-use Rattle.save_file.specs.Save.{bytesOf, saveNoes, saveOf, askNoes, roomFor}
-use Rattle.save_file.specs.Load.{acceptedOf}
-use Rattle.save_file.proofs.Laws.{room-length}
-use Rattle.save_file.specs.declared.Room.{Room}
-use Rattle.save_file.specs.declared.Room.the-variants as room
-use Rattle.save_file.specs.declared.Saved.the-variants as saved
-use Rattle.save_file.specs.declared.SaveRefusal.{SaveRefusal}
-use Rattle.save_file.specs.declared.SaveRefusal.the-variants.{NoBattery, ShortRoom}
-use Rattle.runs.proofs.SaveLaws as saves
-use Rattle.save_file.specs.declared.Loaded.{Loaded}
-use Rattle.save_file.specs.declared.Loaded.the-variants as loaded
 use Rattle.replay_step.specs.Step.{machine}
 use Rattle.replay_text.specs.Replay.{textOf}
 use Rattle.replay_program.specs.Written.{writtenOf}
 use Rattle.replay_program.specs.declared.File.the-variants.{Whole}
 use Rattle.replay_program.proofs.Theorems.{header-refused, area-too-large, mounted-replays}
+use Rattle.runs.proofs.SaveLaws as saves
 use Rattle.promises.specs.Refusing.{Call, Refusing}
 use Rattle.promises.specs.PublicCalls.{
   factsIn,
@@ -56,7 +57,6 @@ use Rattle.promises.specs.PublicCalls.{
   programNoes,
   mountLine,
 }
-use borrow.Author.Tests.{ltb-true, ltb-false, le-ltb}
 
 pub by-first : {R A : Type 0} {numbers : List ℕ} (c : Call R A) → c .answer ≡ firstNo (c .refuse) (c .tests) (c .accepted)
     → ((v w : R) → c .refuse v ≡ c .refuse w → v ≡ w) → ((w : R) → c .accepted ≡ c .refuse w → false ≡ true)

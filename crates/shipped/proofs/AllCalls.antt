@@ -4,28 +4,27 @@ use mathlib.Core.Path.{_≡_, refl, ap, _∙_}
 use Prim.Native.Nat.{ℕ}
 use denote.Ref.{now}
 use Rattle.bus.specs.Run.{Machine, Ready}
-use Rattle.player.specs.Windows.{numbersOf, windowsAfter}
 use Rattle.windows.specs.Windows.{windowsOf}
+use Rattle.player.specs.Windows.{numbersOf, windowsAfter}
 use Rattle.player.proofs.imf_mount.Reads as imf-mount
 use Rattle.player.proofs.imf_windows.Reads as imf-windows
 use Rattle.runs.proofs.RunLaws.{run-ready}
-use Rattle.runs.proofs.SaveLaws as saves
+use Rattle.runs.proofs.SaveLaws.{load-ready}
 use Rattle.shipped.specs.Ships.{keptOf, Sound}
 use Rattle.shipped.specs.Requests.{Request, serveOf, servesOf, Octet, Octets, Reply, bare}
 use Rattle.shipped.specs.Requests as request
 use Rattle.shipped.specs.Through.{Watched, watchedOf}
 use Rattle.shipped.specs.AllCalls.{anyOf, allOf}
+use Rattle.shipped.specs.Along.{Out, Outs, out, outs}
+use Rattle.shipped.specs.Sequence.{Kept}
+use Rattle.shipped.specs.Made.{Call, MadeAny, AllMadeAny, access, sized, saved, loaded}
+use Rattle.shipped.specs.Mounted.{watchedBy, keptBy, MountsBy, mountedBy}
 use Rattle.shipped.proofs.Made.{of-two}
 use Rattle.shipped.proofs.Saves.{request-ships, serve-sound}
 use Rattle.shipped.proofs.MadeSaves.{request-is}
 use Rattle.shipped.proofs.Through.{windows-are, through-step}
 use Rattle.shipped.proofs.MadeThrough.{made-through-is, watched-mounted, mounted-ready}
-use Rattle.shipped.specs.Along.{Out, Outs, out, outs}
-use Rattle.shipped.specs.Sequence.{Kept}
 use Rattle.shipped.proofs.AlongLaws.{along-are, along-ships}
-use Rattle.shipped.specs.Made.{Call, MadeAny, AllMadeAny, access, sized, saved, loaded}
-use Rattle.shipped.specs.Mounted.{watchedBy, keptBy, MountsBy, mountedBy}
-use Rattle.runs.proofs.SaveLaws.{load-ready}
 
 -- ---- the image and the area stay those of the mounting
 

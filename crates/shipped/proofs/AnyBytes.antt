@@ -32,10 +32,10 @@ use Rattle.player.specs.Bus.{readNumber, readOf, writeNumber, writeOf, advanceN
 use Rattle.runs.specs.Calls.{Octets}
 use Rattle.shipped.specs.Sequence.{Kept, callOf, callsOf}
 use Rattle.shipped.specs.Ships.{numberOf, numbersOf, Sound}
+use Rattle.shipped.specs.Along.{Out, Outs}
 use Rattle.shipped.proofs.StepLaws.{stateOf, step-any, step-sound, step-read}
 use Rattle.shipped.proofs.WidthLaws.{decoded-has}
 use Rattle.shipped.proofs.Shipped.{decoded-in-time}
-use Rattle.shipped.specs.Along.{Out, Outs}
 
 -- ---- 1. bytes that are read as a fit cartridge
 

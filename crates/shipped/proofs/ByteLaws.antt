@@ -21,8 +21,8 @@ use Rattle.mbc1.specs.Registers as mbc1
 use Rattle.mbc2.specs.Registers as mbc2
 use Rattle.mbc3.specs.Registers as mbc3
 use Rattle.mbc3.specs.declared.Mbc3 as mbc3-state
-use Rattle.mbc5.specs.Registers as mbc5
 use Rattle.timer.specs.ClockWindow.{onClock, byteOr, windowRead}
+use Rattle.mbc5.specs.Registers as mbc5
 use Rattle.mapper.specs.Mappers.{bankAt}
 use Rattle.mapper.specs.declared.Mapper.{Mapper}
 use Rattle.mapper.specs.declared.Mapper.the-variants.{NoMapper, Mbc1, Mbc2, Mbc3, Mbc5}

@@ -1,7 +1,6 @@
 -- Demand 2 of what ships: an image that `imf_mount` takes, a save that `imf_save_in` takes or none, and any list of reads, writes and
 -- advances through the exported calls. Assumes nothing.
 use lib.ListN.{length}
-use Rattle.player.proofs.imf_windows.Reads as imf-windows
 use mathlib.Core.List.{List}
 use mathlib.Core.Option.{Option, none, some}
 use mathlib.Core.Path.{_≡_, sym, ap, _∙_, subst}
@@ -9,35 +8,35 @@ use Prim.Native.Nat.{ℕ, _<_, _^_}
 use native.Mathlib.Omega.{arith}
 use denote.Ref.{now}
 use Rattle.bytes_le.specs.Little as bytes
-use Rattle.save_file.specs.Admit as admit
+use Rattle.cartridge.specs.Fit.{InTime}
+use Rattle.cartridge.specs.declared.Cartridge.{Cartridge}
 use Rattle.save_file.specs.declared.Loaded.{Loaded}
 use Rattle.bus.specs.Run.{Access, runOf, Answer, Machine}
+use Rattle.player.proofs.imf_windows.Reads as imf-windows
 use Rattle.player.specs.Save.{loadedNumber}
+use Rattle.player.proofs.imf_mount.Reads as imf-mount
 use Rattle.runs.specs.Game.{Game, mountedMachine, answerTo, Accepted, Readable, begins}
 use Rattle.runs.specs.Calls as calls
 use Rattle.runs.proofs.RunLaws.{run-called, calls-run}
+use Rattle.runs.proofs.BusLaws.{mount-taken, mount-fit}
 use Rattle.original_saves.specs.Agrees.{Unseen, CutHarmless}
 use Rattle.original_saves.proofs.Games.{game-agrees}
-use Rattle.player.proofs.imf_mount.Reads as imf-mount
 use Rattle.shipped.specs.Along.{Out, Outs, outs}
 use Rattle.shipped.specs.Sequence.{Kept, callsOf}
 use Rattle.shipped.specs.Ships.{keptOf, Sound}
 use Rattle.shipped.specs.Requests.{Reply, requestOf}
 use Rattle.shipped.specs.Requests as request
 use Rattle.shipped.specs.Agrees.{ShippedAgrees}
+use Rattle.shipped.specs.Through.{Watched}
+use Rattle.shipped.specs.Made.{Call, AllMade, MadeRequest, AllMadeThrough}
+use Rattle.shipped.specs.Mounted.{watchedBy, MountsBy, keptBy, gameBy}
 use Rattle.shipped.proofs.Made.{all-made-are}
 use Rattle.shipped.proofs.Shipped.{calls-ship, started-in-time, run-sound}
 use Rattle.shipped.proofs.Saves.{request-ships, serve-sound}
 use Rattle.shipped.proofs.Mounted.{mount-leaves}
 use Rattle.shipped.proofs.MadeSaves.{request-is}
-use Rattle.shipped.specs.Through.{Watched}
 use Rattle.shipped.proofs.MadeThrough.{made-through-ships}
-use Rattle.shipped.specs.Made.{Call, AllMade, MadeRequest, AllMadeThrough}
-use Rattle.shipped.specs.Mounted.{watchedBy, MountsBy, keptBy, gameBy}
 use Rattle.shipped.proofs.NumberLaws.{save-some}
-use Rattle.runs.proofs.BusLaws.{mount-taken, mount-fit}
-use Rattle.cartridge.specs.Fit.{InTime}
-use Rattle.cartridge.specs.declared.Cartridge.{Cartridge}
 
 -- ---- calls on the bytes of a game's beginning
 

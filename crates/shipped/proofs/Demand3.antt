@@ -18,6 +18,7 @@ use Rattle.clock.specs.declared.Clock.{Clock}
 use Rattle.clock.specs.declared.AdvanceRefusal.the-variants as late
 use Rattle.clock.proofs.FitLaws.{fit-parts}
 use Rattle.clock.proofs.KeptLaws as ticking
+use Rattle.clock.proofs.AnswerLaws.{halted-answer}
 use Rattle.mapper.specs.declared.Mapper.{Mapper}
 use Rattle.mapper.specs.declared.Mapper.the-variants.{NoMapper, Mbc1, Mbc2, Mbc3, Mbc5}
 use Rattle.battery.specs.Battery.{clockIn, withClock}
@@ -25,6 +26,7 @@ use Rattle.battery.specs.declared.Timer.the-variants as timer
 use Rattle.cartridge.specs.Fit.{fitCart, InTime}
 use Rattle.cartridge.specs.declared.Cartridge.{Cartridge}
 use Rattle.cartridge.proofs.Laws.{fit-registers}
+use Rattle.cartridge.specs.With.{withMapper}
 use Rattle.bus.specs.Advance as advance
 use Rattle.bus.specs.Run as run
 use Rattle.bus.specs.declared.Advanced.{Advanced}
@@ -46,13 +48,11 @@ use Rattle.runs.proofs.AdvanceLaws.{clock-advance, timed-taken, timed-clock, ad
 use Rattle.runs.proofs.TimeLaws.{taken-seconds, comes-back, whole-seconds, no-sooner}
 use Rattle.shipped.specs.Sequence.{callsOf, Kept}
 use Rattle.shipped.specs.Moves.{Moved, movedOf, thenMoved, singleMoves, SameMoved, onesLeft}
+use Rattle.shipped.specs.Along.{Outs}
 use Rattle.shipped.proofs.InTimeLaws as timing
 use Rattle.shipped.proofs.PlainLaws.{timed-stays, untimed-still, advance-plain}
 use Rattle.shipped.proofs.StepLaws.{decoded}
 use Rattle.shipped.proofs.Shipped.{decoded-in-time}
-use Rattle.shipped.specs.Along.{Outs}
-use Rattle.clock.proofs.AnswerLaws.{halted-answer}
-use Rattle.cartridge.specs.With.{withMapper}
 
 -- ---- an advance of bytes is the cartridge's
 

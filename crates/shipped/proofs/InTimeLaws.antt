@@ -12,13 +12,11 @@ use Rattle.clock.specs.Access.{latchedOf, writtenOf}
 use Rattle.clock.specs.Ticking as clock
 use Rattle.clock.specs.Ticking.{ticks}
 use Rattle.clock.specs.declared.Written.{Written}
-use Rattle.clock.specs.declared.Written.the-variants as written
 use Rattle.clock_block.specs.Waking.{wokenOf}
 use Rattle.clock_block.specs.Waking as block
 use Rattle.clock_block.specs.declared.Block.{Block}
 use Rattle.types.specs.declared.Kind.{Kind}
 use Rattle.types.specs.declared.Kind.the-variants as kind
-use Rattle.mount.specs.Mount as mount
 use Rattle.mbc3.specs.Registers as mbc3
 use Rattle.mbc3.specs.declared.Mbc3 as declared
 use Rattle.timer.specs.Advance as timer
@@ -29,8 +27,9 @@ use Rattle.mapper.specs.declared.Mapper.the-variants.{NoMapper, Mbc1, Mbc2, Mbc
 use Rattle.battery.specs.Battery.{withClock}
 use Rattle.window.specs.Window as window
 use Rattle.window.specs.declared.Way.the-variants.{Bytes, Timer}
-use Rattle.states.specs.Plain.{plainMapper}
 use Rattle.cartridge.specs.Fit.{InTime}
+use Rattle.mount.specs.Mount as mount
+use Rattle.states.specs.Plain.{plainMapper}
 
 -- of an MBC3: where there is a timer, its time has 64 bits
 abbrev Timed : declared.Mbc3 → Type 0

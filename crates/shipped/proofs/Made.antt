@@ -7,13 +7,10 @@ use denote.Ref.{now}
 use Rattle.bus.specs.Run.{Access}
 use Rattle.flat_write.specs.Calls.{stateWritten, areaWritten, stateAdvanced}
 use Rattle.player.specs.Bus.{readOf, writeOf, advanceOf}
-use Rattle.player.proofs.imf_read.Reads as imf-read
-use Rattle.player.proofs.imf_write.Reads as imf-write
-use Rattle.player.proofs.imf_advance.Reads as imf-advance
 use Rattle.shipped.specs.Sequence.{Kept, callOf, callsOf, kept}
 use Rattle.shipped.specs.Along.{Out, Outs, out}
-use Rattle.shipped.proofs.AlongLaws.{along-are}
 use Rattle.shipped.specs.Made.{Made, read, write, advance, AllMade}
+use Rattle.shipped.proofs.AlongLaws.{along-are}
 
 answered : {x y : ℕ} {s t ram area : List ℕ} → x ≡ y → s ≡ t → ram ≡ area
     → _≡_ {A = Out ℕ Kept} (out x (kept s ram)) (out y (kept t area))

@@ -7,20 +7,16 @@ use denote.Ref.{now}
 use lib.ListN.{length}
 use Rattle.player.specs.Save.{sizeOf, sizeAsked, saveOf, roomSaved, sizeSaved, loadOf, stateLoaded, areaLoaded, clockLoaded}
 use Rattle.player.proofs.imf_mount.Reads as imf-mount
-use Rattle.player.proofs.imf_save_size.Reads as imf-save-size
-use Rattle.player.proofs.imf_save_out.Reads as imf-save-out
-use Rattle.player.proofs.imf_save_in.Reads as imf-save-in
 use Rattle.shipped.specs.Sequence.{Kept, kept}
 use Rattle.shipped.specs.Requests.{Request, reply, requestOf, requestsOf, servesOf, Octets, Reply, bare}
-use Rattle.shipped.specs.Requests as request
+use Rattle.shipped.specs.Along.{Out, Outs, out, outs}
+use Rattle.shipped.specs.Ships.{keptOf}
+use Rattle.shipped.specs.Made.{Call, MadeRequest, AllRequested, access, asked, saved, loaded}
+use Rattle.shipped.specs.Mounted.{keptBy, MountsBy, mountedBy}
 use Rattle.shipped.proofs.Made.{of-one, of-two, made-is}
 use Rattle.shipped.proofs.Mounted.{mount-leaves}
 use Rattle.shipped.proofs.Saves.{requests-ship}
-use Rattle.shipped.specs.Along.{Out, Outs, out, outs}
-use Rattle.shipped.specs.Ships.{keptOf}
 use Rattle.shipped.proofs.AlongLaws.{along-are}
-use Rattle.shipped.specs.Made.{Call, MadeRequest, AllRequested, access, asked, saved, loaded}
-use Rattle.shipped.specs.Mounted.{keptBy, MountsBy, mountedBy}
 
 replied : {x y v w : ℕ} {a b s t ram area : List ℕ} → x ≡ y → a ≡ b → v ≡ w → s ≡ t → ram ≡ area
     → _≡_ {A = Out Reply Kept} (out (reply x a v) (kept s ram)) (out (reply y b w) (kept t area))

@@ -20,13 +20,13 @@ use Rattle.runs.proofs.RunLaws.{mount-ready}
 use Rattle.shipped.specs.Sequence.{Kept, callOf, kept}
 use Rattle.shipped.specs.Ships.{numbersOf}
 use Rattle.shipped.specs.Through.{Watched, passed, askedOf, throughOf, throughAll, watchedOf, passedOf}
+use Rattle.shipped.specs.Along.{Out, Outs, out, outs}
+use Rattle.shipped.specs.Made.{Call, MadeThrough, AllMadeThrough, seen, asked, put, written, moved, passing}
+use Rattle.shipped.specs.Mounted.{keptBy, MountsBy, mountedBy, watchedBy}
 use Rattle.shipped.proofs.Made.{of-one, of-two, made-is}
 use Rattle.shipped.proofs.Mounted.{mount-leaves}
 use Rattle.shipped.proofs.Through.{windows-are, through-ships}
-use Rattle.shipped.specs.Along.{Out, Outs, out, outs}
 use Rattle.shipped.proofs.AlongLaws.{along-are}
-use Rattle.shipped.specs.Made.{Call, MadeThrough, AllMadeThrough, seen, asked, put, written, moved, passing}
-use Rattle.shipped.specs.Mounted.{keptBy, MountsBy, mountedBy, watchedBy}
 
 module _ (image : List ℕ) (k : Watched) where
   -- a read, by whether the windows ask

@@ -3,13 +3,11 @@ use mathlib.Core.List.{List}
 use mathlib.Core.Path.{_≡_, sym, _∙_}
 use Prim.Native.Nat.{ℕ, _<_, _^_}
 use denote.Ref.{now}
-use Rattle.bytes_le.specs.Little as bytes
-use Rattle.mount.specs.Mount as mount
 use Rattle.player.proofs.imf_mount.Reads as imf-mount
 use Rattle.shipped.specs.Sequence.{Kept, kept}
-use Rattle.shipped.proofs.Shipped.{mount-ships}
 use Rattle.shipped.specs.Made.{Call}
 use Rattle.shipped.specs.Mounted.{keptMounted, keptBy, MountsBy}
+use Rattle.shipped.proofs.Shipped.{mount-ships}
 
 -- where it answered 0, at a wall time of 64 bits, is the game that it was lent,
 pub mount-made : (c : Call imf-mount.Learnt) → c .answer ≡ 0 → c .passed .1 .1 .1 .0 < 2 ^ 64 → MountsBy c

@@ -5,15 +5,15 @@ use Rattle.clock_block.specs.declared.BlockRefusal.the-variants as block-no
 use Rattle.header.specs.Check as header
 use Rattle.header.specs.declared.HeaderRefusal.{HeaderRefusal}
 use Rattle.header.specs.declared.HeaderRefusal.the-variants as header-no
+use Rattle.save_file.specs.Admit as admit
+use Rattle.save_file.specs.declared.SaveRefusal.{SaveRefusal}
+use Rattle.save_file.specs.declared.SaveRefusal.the-variants as saving-no
 use Rattle.mount.specs.Mount as mount
 use Rattle.mount.specs.declared.MountRefusal.{MountRefusal}
 use Rattle.mount.specs.declared.MountRefusal.the-variants.{Header, WrongArea}
 use Rattle.access.specs.Verdict as access
 use Rattle.access.specs.declared.BusRefusal.{BusRefusal}
 use Rattle.access.specs.declared.BusRefusal.the-variants.{Unfit, WrongLength, BadAddress, BadSelection}
-use Rattle.save_file.specs.Admit as admit
-use Rattle.save_file.specs.declared.SaveRefusal.{SaveRefusal}
-use Rattle.save_file.specs.declared.SaveRefusal.the-variants as saving-no
 
 pub header-some : (w : HeaderRefusal) → header.numberOf w ≡ suc (header.numberOf w - 1)
 header-some header-no.TooLong = refl

@@ -9,9 +9,9 @@ use Rattle.facts.specs.Choice.{pick, both}
 use Rattle.facts.specs.Refusals.{no, firstNo}
 use Rattle.facts.proofs.ChoiceLaws.{pick-has}
 use Rattle.banking.specs.Banks.{romPlace}
-use Rattle.image.specs.Image.{byteAt}
 use Rattle.clock.specs.Ticking.{ticks}
 use Rattle.clock.specs.declared.AdvanceRefusal.the-variants.{Unfit, Late}
+use Rattle.image.specs.Image.{byteAt}
 use Rattle.mbc3.specs.Registers.{withClock}
 use Rattle.mbc3.specs.declared.Mbc3 as mbc3-state
 use Rattle.timer.specs.Advance as timer

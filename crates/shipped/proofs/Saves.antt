@@ -4,6 +4,7 @@ use mathlib.Core.Path.{_≡_, refl, sym, ap, _∙_, subst}
 use Prim.Native.Nat.{ℕ}
 use lib.ListN.{length}
 use Rattle.cartridge.specs.declared.Cartridge.{Cartridge}
+use Rattle.cartridge.specs.Fit.{InTime}
 use Rattle.save_file.specs.Save as save
 use Rattle.save_file.specs.Load as load
 use Rattle.save_file.specs.declared.Room.{Room}
@@ -17,16 +18,15 @@ use Rattle.states.specs.OnState.{onState}
 use Rattle.states.specs.declared.Decoded.{Decoded}
 use Rattle.player.specs.Save.{roomNumber, roomSize, sizeOf, sizeAsked, savedNumber, savedSize, saveOf, roomSaved, sizeSaved, loadedNumber, loadedState, loadedClock, loadOf, stateLoaded, areaLoaded, clockLoaded}
 use Rattle.runs.proofs.SaveLaws as saves
+use Rattle.runs.specs.Game.{cartBy}
 use Rattle.shipped.specs.Ships.{keptOf, Sound}
 use Rattle.shipped.specs.Requests.{Request, reply, requestOf, requestsOf, serveOf, servesOf, Octet, Octets, Reply, bare}
 use Rattle.shipped.specs.Requests as request
+use Rattle.shipped.specs.Along.{Out, out, outs}
+use Rattle.shipped.specs.Sequence.{Kept, kept}
 use Rattle.shipped.proofs.InTimeLaws as timing
 use Rattle.shipped.proofs.StepLaws.{decoded, step-ships, step-sound}
 use Rattle.shipped.proofs.PlainSaves.{room-plain, save-plain, room-after-plain, load-plain}
-use Rattle.cartridge.specs.Fit.{InTime}
-use Rattle.shipped.specs.Along.{Out, out, outs}
-use Rattle.shipped.specs.Sequence.{Kept, kept}
-use Rattle.runs.specs.Game.{cartBy}
 use Rattle.shipped.proofs.AlongLaws.{along-ships}
 
 abbrev replied : ℕ → List ℕ → ℕ → List ℕ → List ℕ → Out Reply Kept

@@ -7,10 +7,10 @@ use native.Mathlib.Omega.{arith}
 use lib.ListN.{length}
 use Rattle.bytes_le.specs.Little as bytes
 use Rattle.bytes_le.proofs.FieldLaws.{field-lt}
+use Rattle.header.specs.declared.Facts.{Facts}
 use Rattle.mapper.specs.declared.Mapper.{Mapper}
 use Rattle.cartridge.specs.Fit.{fitCart, InTime}
 use Rattle.cartridge.specs.declared.Cartridge.{Cartridge}
-use Rattle.header.specs.declared.Facts.{Facts}
 use Rattle.mount.specs.Mount as mount
 use Rattle.mount.specs.declared.Mounted.{Mounted}
 use Rattle.mount.specs.declared.Mounted.the-variants as mounted
@@ -34,12 +34,12 @@ use Rattle.runs.specs.Calls.{Octets, Octet}
 use Rattle.runs.proofs.BusLaws as laws
 use Rattle.shipped.specs.Sequence.{Kept, callOf, callsOf, kept}
 use Rattle.shipped.specs.Ships.{numberOf, keptOf, calledOf, Sound, Said, numbered, numbersOf}
+use Rattle.shipped.specs.Along.{Outs, outs, before, along}
+use Rattle.shipped.specs.Mounted.{Mounts}
 use Rattle.shipped.proofs.InTimeLaws as timing
 use Rattle.shipped.proofs.StepLaws.{step-ships, step-sound}
 use Rattle.shipped.proofs.WidthLaws.{decoded-has}
-use Rattle.shipped.specs.Along.{Outs, outs, before, along}
 use Rattle.shipped.proofs.AlongLaws.{along-ships, along-stays}
-use Rattle.shipped.specs.Mounted.{Mounts}
 use Rattle.shipped.proofs.NumberLaws.{mount-some}
 
 -- ---- 1. any list of calls

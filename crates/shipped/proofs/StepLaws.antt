@@ -9,6 +9,7 @@ use Rattle.mapper.specs.declared.Mapper.{Mapper}
 use Rattle.window.specs.Window as window
 use Rattle.cartridge.specs.With.{withMapper}
 use Rattle.cartridge.specs.declared.Cartridge.{Cartridge}
+use Rattle.cartridge.specs.Fit.{InTime}
 use Rattle.bus.specs.Bus as bus
 use Rattle.bus.specs.Advance as advance
 use Rattle.bus.specs.Run.{Access, Machine, afterRead, afterWrite, afterClocks, stepOf}
@@ -33,10 +34,9 @@ use Rattle.runs.proofs.BusLaws as laws
 use Rattle.runs.proofs.RunLaws.{read-left}
 use Rattle.shipped.specs.Sequence.{callOf, Kept, kept}
 use Rattle.shipped.specs.Ships.{numberOf, keptOf, Sound}
+use Rattle.shipped.specs.Along.{Out, out}
 use Rattle.shipped.proofs.InTimeLaws as timing
 use Rattle.shipped.proofs.PlainLaws.{read-plain, write-plain, store-plain, untimed-still, advance-plain}
-use Rattle.cartridge.specs.Fit.{InTime}
-use Rattle.shipped.specs.Along.{Out, out}
 
 -- the bytes of a sound cartridge are read as its plain one
 pub decoded : (m : Machine) → Sound m → decodeOf (encodeOf (m .cart)) ≡ To (plain (m .cart))

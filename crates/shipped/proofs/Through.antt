@@ -41,6 +41,7 @@ use Rattle.states.specs.Plain.{plainMapper, plain}
 use Rattle.states.specs.OnState.{onState}
 use Rattle.states.proofs.Back.{fit-plain}
 use Rattle.states.proofs.Unused as unused
+use Rattle.flat_write.specs.Calls.{stateWritten, areaWritten, stateAdvanced}
 use Rattle.windows.specs.Windows.{window, unmapped, byWay, ramAt, romAt, windowsFrom, windowsBy, windowsOf, askOf, asksOf}
 use Rattle.windows.specs.Through.{placeIn, fromRead, putBy, putOf, areaBy, areaAfter}
 use Rattle.windows.specs.declared.Windows.{Windows}
@@ -52,7 +53,6 @@ use Rattle.windows.specs.declared.Put.{Put}
 use Rattle.windows.specs.declared.Put.the-variants as put
 use Rattle.windows.proofs.Laws.{put-low, put-ram, put-outside}
 use Rattle.windows.proofs.Same.{window-read, only-15, window-write, unasked-write-keeps, outside-is-refused, windows-stay-in-ram-write, windows-stay-in-advance}
-use Rattle.flat_write.specs.Calls.{stateWritten, areaWritten, stateAdvanced}
 use Rattle.player.specs.Bus.{readNumber, readOf, writeOf, advanceOf}
 use Rattle.player.specs.Windows.{numbersOf, askedWindows, seenNumber, putNumber, windowsAfter, windowRead, windowWrite, areaThrough}
 use Rattle.runs.specs.Calls.{Octet, Octets}
@@ -62,9 +62,9 @@ use Rattle.shipped.specs.Sequence.{callOf, Kept}
 use Rattle.shipped.specs.Ships.{numberOf, keptOf, Sound}
 use Rattle.shipped.specs.Ships as ships
 use Rattle.shipped.specs.Through.{passed, askedOf, throughOf, throughAll, watchedOf, passedOf}
+use Rattle.shipped.specs.Along.{Out, Outs, out, outs}
 use Rattle.shipped.proofs.PlainLaws.{read-plain}
 use Rattle.shipped.proofs.StepLaws.{decoded, step-ships, step-sound}
-use Rattle.shipped.specs.Along.{Out, Outs, out, outs}
 use Rattle.shipped.proofs.AlongLaws.{along-ships}
 use Rattle.shipped.proofs.Shipped.{numbered-run}
 

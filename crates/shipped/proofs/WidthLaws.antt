@@ -8,9 +8,9 @@ use Rattle.facts.specs.Choice.{pick}
 use Rattle.facts.proofs.ChoiceLaws.{false≢true}
 use Rattle.bytes_le.specs.Little.{fieldAt, Octets}
 use Rattle.bytes_le.proofs.FieldLaws.{field-lt}
-use Rattle.state_fields.specs.ClockFields.{registersIn}
 use Rattle.mapper.specs.declared.Mapper.{Mapper}
 use Rattle.cartridge.specs.declared.Cartridge.{Cartridge}
+use Rattle.state_fields.specs.ClockFields.{registersIn}
 use Rattle.states.specs.Reading.{decodeOf, isState, mapperAt, cartAt}
 use Rattle.states.specs.Widths.{RegisterWidths, MapperWidths, Widths}
 use Rattle.states.specs.declared.Decoded.the-variants.{To, NoState}

@@ -4,8 +4,8 @@ use mathlib.Core.List.{List, [], _∷_}
 use mathlib.Core.Path.{_≡_}
 use Prim.Native.Nat.{ℕ, _+_, _<_}
 use Rattle.cartridge.specs.Fit.{fitCart, InTime}
-use Rattle.states.specs.Layout.{encodeOf}
 use Rattle.bus.specs.Run.{Access, Answer, Machine, Ran, reads, writes, clocks, gave, took, refused, stepOf}
+use Rattle.states.specs.Layout.{encodeOf}
 use Rattle.shipped.specs.Along.{Out, Outs, out, outs}
 use Rattle.shipped.specs.Sequence.{Kept, kept}
 

@@ -4,9 +4,9 @@ use mathlib.Core.List.{List}
 use Prim.Native.Nat.{ℕ}
 use lib.Dec.{eqb, ltb}
 use Rattle.facts.specs.Choice.{pick}
-use Rattle.windows.specs.Windows.{windowsOf}
 use Rattle.bus.specs.Run.{Access, Machine, reads, writes, clocks}
 use Rattle.flat_write.specs.Calls.{stateWritten, areaWritten, stateAdvanced}
+use Rattle.windows.specs.Windows.{windowsOf}
 use Rattle.player.specs.Bus.{readOf, writeOf, advanceOf}
 use Rattle.player.specs.Windows.{numbersOf, ask, windowsAfter, windowRead, windowWrite, areaThrough}
 use Rattle.shipped.specs.Along.{Out, Outs, out, along}

@@ -8,7 +8,7 @@ use Prim.Native.Nat.{ℕ, _+_, _%_, _<_, _≤_}
 use native.Mathlib.Omega.{arith}
 use lib.Dec.{ltb, leb}
 use lib.ListN.{length}
-use borrow.Author.Tests.{ltb-true, ltb-false, lt-ltb, le-ltb, leb-true, lt-leb, eq-eqb}
+use borrow.Author.Tests.{ltb-true, ltb-false, leb-true, lt-leb, eq-eqb}
 use Rattle.facts.specs.Choice.{pick, both}
 use Rattle.facts.specs.Banking.{placeOf}
 use Rattle.facts.proofs.ChoiceLaws.{both-true, both-false, both-parts, pick-has}

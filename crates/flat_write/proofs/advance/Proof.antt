@@ -1,8 +1,8 @@
 -- `flat_write::advance` meets its contract: fit or not, with a timer or without, and by the mapper. Assumes nothing.
 use borrow.Author.Needs.{needs}
+use denote.Ref.{now}
 use Rattle.flat_write.proofs.advance.Statement.{statement}
 use Rattle.flat_write.proofs.advance.Tie as tie
-use denote.Ref.{now}
 use Rattle.flat_write.proofs.Laws.{timed-at, untimed-at, unfit-clocked, fit-still, fit-clocked}
 
 read-u8-requires : tie.Need-read-u8-requires

@@ -1,13 +1,13 @@
 -- `flat_write::advance_mapper` meets its contract: the mapper's answer, put into the bytes. Assumes nothing.
 use borrow.Author.Needs.{needs}
-use Rattle.flat_write.proofs.advance_mapper.Statement.{statement}
-use Rattle.flat_write.proofs.advance_mapper.Tie as tie
 use mathlib.Core.Path.{sym, ap, _∙_}
 use denote.Ref.{now}
 use Rattle.mapper.specs.declared.Advanced.{Advanced}
 use Rattle.bus.specs.Advance.{fromMapper}
 use Rattle.states.specs.Reading.{cartIn}
 use Rattle.flat_write.specs.Calls.{passedBy, advanceState}
+use Rattle.flat_write.proofs.advance_mapper.Statement.{statement}
+use Rattle.flat_write.proofs.advance_mapper.Tie as tie
 use Rattle.flat_write.proofs.Laws.{put-timed}
 
 advance-requires : tie.Need-advance-requires
