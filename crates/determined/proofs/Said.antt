@@ -1,14 +1,35 @@
--- What the contracts of a player's calls, of the trace and of the replay say, as the definitions that the demands' theorems speak of: a
--- contract that cites another definition, or none, is refused here. Assumes nothing.
+-- What the contracts of a player's calls, of the clock, of the image, of a state's bytes, of the trace and of the replay say, as the
+-- definitions that the demands' theorems speak of: a contract that cites another definition, or none, is refused here. Assumes nothing.
 use denote.Ref.{now}
 use lib.ListN.{length}
+use Rattle.utf8.specs.Utf8.{isUtf8}
+use Rattle.utf8.proofs.is_utf8.Reads as is-utf8
+use Rattle.image.specs.Image as image
+use Rattle.image.proofs.byte_at.Reads as byte-at
+use Rattle.image.proofs.padded_len.Reads as padded-len
+use Rattle.image.proofs.checksum.Reads as image-checksum
+use Rattle.clock_registers.specs.Seconds.{forwardOf}
+use Rattle.clock_registers.proofs.Registers.forward.Reads as registers-forward
+use Rattle.clock.specs.Access as access
+use Rattle.clock.specs.Fit.{fitClock}
 use Rattle.clock.specs.Ticking as ticking
+use Rattle.clock.proofs.Clock.new.Reads as clock-new
+use Rattle.clock.proofs.Clock.fit.Reads as clock-fit
 use Rattle.clock.proofs.Clock.advance.Reads as clock-advance
 use Rattle.clock.proofs.Clock.tick.Reads as clock-tick
+use Rattle.clock.proofs.Clock.read.Reads as clock-read
+use Rattle.clock.proofs.Clock.write.Reads as clock-write
+use Rattle.clock.proofs.Clock.latch.Reads as clock-latch
 use Rattle.clock_block.specs.Waking as waking
 use Rattle.clock_block.proofs.Block.wake.Reads as block-wake
 use Rattle.header.specs.Check as header
 use Rattle.header.proofs.check.Reads as header-check
+use Rattle.cartridge.specs.Fit.{fitCart}
+use Rattle.cartridge.proofs.Cartridge.fit.Reads as cartridge-fit
+use Rattle.states.specs.Layout.{encodeOf}
+use Rattle.states.specs.Reading.{decodeOf}
+use Rattle.states.proofs.encode.Reads as states-encode
+use Rattle.states.proofs.decode.Reads as states-decode
 use Rattle.mount.specs.Mount as mount
 use Rattle.mount.proofs.ask_area.Reads as ask-area
 use Rattle.mount.proofs.mount.Reads as mount-mount
@@ -27,6 +48,19 @@ use Rattle.trace.proofs.next_record.Reads as next-record
 use Rattle.replay_program.specs.Written as program
 use Rattle.replay_program.proofs.write.Reads as program-write
 use Rattle.determined.specs.Determined.{Says, SaysLeft}
+
+-- `image::byte_at`, `padded_len` and `checksum`; `utf8::is_utf8`
+pub byte-at-says : Says byte-at.Learnt (λ k a. image.byteAt (now (a .0)) (a .1 .0))
+byte-at-says k a x s p = p
+
+pub padded-len-says : Says padded-len.Learnt (λ k a. image.paddedLength (length (now (a .0))))
+padded-len-says k a x s p = p
+
+pub checksum-says : Says image-checksum.Learnt (λ k a. image.checksumOf (now (a .0)))
+checksum-says k a x s p = p
+
+pub is-utf8-says : Says is-utf8.Learnt (λ k a. isUtf8 (now (a .0)))
+is-utf8-says k a x s p = p
 
 -- `header::check`, `mount::ask_area`
 pub check-says : Says header-check.Learnt (λ k a. header.checkOf (now (a .0)))
@@ -64,6 +98,35 @@ clock-advance-says k a x s p = p
 
 pub clock-tick-says : Says clock-tick.Learnt (λ k a. ticking.advanceOf (a .0) 1)
 clock-tick-says k a x s p = p
+
+-- `Clock::new`, `fit`, `read`, `write` and `latch`; `Registers::forward`
+pub clock-new-says : Says clock-new.Learnt (λ k a. access.startAt (a .0))
+clock-new-says k a x s p = p
+
+pub clock-fit-says : Says clock-fit.Learnt (λ k a. fitClock (a .0))
+clock-fit-says k a x s p = p
+
+pub clock-read-says : Says clock-read.Learnt (λ k a. access.shownOf (a .0) (a .1 .0))
+clock-read-says k a x s p = p
+
+pub clock-write-says : Says clock-write.Learnt (λ k a. access.writtenOf (a .0) (a .1 .0) (a .1 .1 .0))
+clock-write-says k a x s p = p
+
+pub clock-latch-says : Says clock-latch.Learnt (λ k a. access.latchedOf (a .0) (a .1 .0))
+clock-latch-says k a x s p = p
+
+pub forward-says : Says registers-forward.Learnt (λ k a. forwardOf (a .0) (a .1 .0))
+forward-says k a x s p = p
+
+-- `Cartridge::fit`; `states::encode` and `decode`, of the 64 bytes
+pub cartridge-fit-says : Says cartridge-fit.Learnt (λ k a. fitCart (a .0))
+cartridge-fit-says k a x s p = p
+
+pub encode-says-state : SaysLeft states-encode.Learnt (λ k s. now (s .1 .0)) (λ k a. encodeOf (a .0))
+encode-says-state k a x s p = p
+
+pub decode-says : Says states-decode.Learnt (λ k a. decodeOf (now (a .0)))
+decode-says k a x s p = p
 
 -- `save_file::ask_room`, `save` and `load`: the answers, the room and the area; `Block::wake`
 pub ask-room-says : Says ask-room.Learnt (λ k a. save.roomFor (a .0))
