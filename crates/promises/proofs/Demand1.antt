@@ -1,9 +1,10 @@
 -- Demand 1: "No image, state, address, byte, clock count or save file makes a call trap or touch memory it wasn't lent. Each bad
 -- input gets its number from document 01, and a refused call changes neither the cartridge nor any lent byte."
 -- That no call traps and none touches what it was not lent is what the prover shows of every function before it shows its
--- contract. The rest is one statement, `Refusing`, and an instance of it for each call that refuses. The calls of `PublicCalls`
--- speak of definitions (`checkOf`, `mountOf`, ..): the contracts say that the code's answers, and every lent byte, equal these on
--- all inputs. Assumes nothing.
+-- contract. The rest is one statement, `Refusing`, and an instance of it for each call of a player that refuses (of the exported
+-- ones in `Exported`), and for a clock's advance, the 21 bytes of a save, the trace's reader and the replay program. The calls of
+-- `PublicCalls` speak of definitions (`checkOf`, `mountOf`, ..): the contracts say that the code's answers, and every lent byte,
+-- equal these on all inputs. Assumes nothing.
 use mathlib.Core.Bool.{true, false}
 use mathlib.Core.List.{List, [], _∷_}
 use mathlib.Core.Logic.{_⊎_, inl, inr, _↔_}
