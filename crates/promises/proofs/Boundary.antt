@@ -64,7 +64,7 @@ use Rattle.player.specs.Windows.{windowsIn, seenNumber, putNumber, askedNumber,
 use Rattle.runs.proofs.BusLaws as laws
 use Rattle.runs.proofs.SaveLaws as saves
 use Rattle.shipped.proofs.InTimeLaws as timing
-use Rattle.shipped.proofs.Shipped.{started-in-time}
+use Rattle.shipped.proofs.Shipped.{mount-sound}
 use Rattle.shipped.proofs.Through.{number-same, asked-or}
 use Rattle.promises.specs.Boundary.{Wrote, Comes}
 
@@ -86,13 +86,8 @@ pub mount-wrote : (s image ram : List ℕ) (wall : ℕ) (c : Cartridge) → wall
     → Wrote (stateMounted s image ram wall)
 unfolding stateMounted
 mount-wrote s image ram wall c h e =
-    let t = laws.mount-taken image ram wall c e in
-    record {
-      cart = c;
-      is = ap (mountState s) e;
-      fit = laws.mount-fit image ram wall c e;
-      timed = subst (λ (x : Cartridge). InTime (x .mapper)) (sym (t .is)) (started-in-time (t .facts) (length image) wall h);
-    }
+    let sound = mount-sound image ram wall c h e in
+    record { cart = c; is = ap (mountState s) e; fit = sound .fit; timed = sound .timed }
 
 -- and each later call such bytes from such bytes, whatever is written, however many clocks pass, whatever save is read.
 made : (d : Cartridge) → fitCart d ≡ true → InTime (d .mapper) → Wrote (encodeOf d)

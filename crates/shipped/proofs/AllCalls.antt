@@ -1,89 +1,109 @@
--- What ships, all of it: accesses through windows, saves out and in, in any order. Assumes nothing.
+-- What ships, all of it: accesses through windows or not, saves out and in, windows and mountings, in any order. Assumes nothing.
 use mathlib.Core.List.{List, [], _∷_}
-use mathlib.Core.Path.{_≡_, refl, ap, _∙_}
+use mathlib.Core.Path.{_≡_, refl, sym, ap, _∙_, subst}
 use Prim.Native.Nat.{ℕ}
 use denote.Ref.{now}
+use lib.ListN.{length}
+use Rattle.mount.specs.Mount as mount
+use Rattle.mount.specs.declared.Mounted.{Mounted}
+use Rattle.mount.specs.declared.Mounted.the-variants as mounted
+use Rattle.save_file.specs.declared.Loaded.{Loaded}
+use Rattle.save_file.specs.declared.Loaded.the-variants as loaded
 use Rattle.bus.specs.Run.{Machine, Ready}
 use Rattle.windows.specs.Windows.{windowsOf}
-use Rattle.player.specs.Windows.{numbersOf, windowsAfter}
+use Rattle.player.specs.Bus.{mountNumber}
+use Rattle.player.specs.Save.{loadedNumber}
+use Rattle.player.specs.Windows.{numbersOf}
 use Rattle.player.proofs.imf_mount.Reads as imf-mount
 use Rattle.player.proofs.imf_windows.Reads as imf-windows
-use Rattle.runs.proofs.RunLaws.{run-ready}
+use Rattle.runs.specs.Game.{answerTo, cartBy}
+use Rattle.runs.proofs.RunLaws.{run-ready, mount-ready}
 use Rattle.runs.proofs.SaveLaws.{load-ready}
-use Rattle.shipped.specs.Ships.{keptOf, Sound}
-use Rattle.shipped.specs.Requests.{Request, serveOf, servesOf, Octet, Octets, Reply, bare}
+use Rattle.shipped.specs.Ships.{Sound}
+use Rattle.shipped.specs.Requests.{Request, serveOf, servesOf, cartMounted, Octet, Octets, Reply, bare}
 use Rattle.shipped.specs.Requests as request
-use Rattle.shipped.specs.Through.{Watched, watchedOf}
-use Rattle.shipped.specs.AllCalls.{anyOf, allOf}
+use Rattle.shipped.specs.Through.{Watched, watchedOf, passedOf}
 use Rattle.shipped.specs.Along.{Out, Outs, out, outs}
 use Rattle.shipped.specs.Sequence.{Kept}
-use Rattle.shipped.specs.Made.{Call, MadeAny, AllMadeAny, access, sized, saved, loaded}
+use Rattle.shipped.specs.Made.{Call, Stays, MadeAny, AllMadeAny, access, other}
 use Rattle.shipped.specs.Mounted.{watchedBy, keptBy, MountsBy, mountedBy}
-use Rattle.shipped.proofs.Made.{of-two}
 use Rattle.shipped.proofs.Saves.{request-ships, serve-sound}
-use Rattle.shipped.proofs.MadeSaves.{request-is}
-use Rattle.shipped.proofs.Through.{windows-are, through-step}
-use Rattle.shipped.proofs.MadeThrough.{made-through-is, watched-mounted, mounted-ready}
-use Rattle.shipped.proofs.AlongLaws.{along-are, along-ships}
+use Rattle.shipped.proofs.MadeSaves.{other-is}
+use Rattle.shipped.proofs.Through.{renewed-are, access-stays, through-step}
+use Rattle.shipped.proofs.MadeThrough.{Watches, watched-mounted, taken-apart, both-outs}
+use Rattle.shipped.proofs.AlongLaws.{along-follows}
 
 -- ---- the image and the area stay those of the mounting
 
 serve-ready : (image : List ℕ) (m : Machine) → Ready image m → (q : Request) → Octet q → Ready image (serveOf image m q .left)
+unfolding mount.areaAfter
 serve-ready image m r (request.bus a) o = run-ready image m (a ∷ []) r (o, tt)
 serve-ready image m r (request.asks size) o = r
 serve-ready image m r (request.saves room wall size) o = r
 serve-ready image m r (request.loads bytes wall clock) o = load-ready bytes wall r
+serve-ready image m r (request.looks words) o = r
+serve-ready image m r (request.mounts wall) o = go (mount.mountOf image (m .area) wall) refl
+  where
+    go : (x : Mounted) → mount.mountOf image (m .area) wall ≡ x
+        → Ready image (record { cart = cartMounted (m .cart) x; area = mount.areaAfter image (m .area) wall })
+    go (mounted.To d) e = mount-ready image (m .area) wall d e
+    go (mounted.Refuse w) e =
+        subst (λ (l : List ℕ). Ready image (record { cart = m .cart; area = l })) (ap (λ (x : Mounted). mount.areaBy x (m .area)) (sym e))
+        (record { fit = r .fit; image = r .image; area = r .area })
 
--- ---- one call, and any list of them
+-- ---- and the windows where they were
 
-pub any-ships : (image : List ℕ) (m : Machine) → Sound m → Ready image m → (q : Request) → Octet q
-    → anyOf image (watchedOf m) q ≡ out (serveOf image m q .answer) (watchedOf (serveOf image m q .left))
-any-ships image m h r (request.bus a) o =
-    ap bare (through-step image m h r a o)
-any-ships image m h r (request.asks size) o =
-    ap (λ (x : Out Reply Kept). out (x .answer) (watchedOf m)) (request-ships image m h (request.asks size))
-any-ships image m h r (request.saves room wall size) o =
-    ap (λ (x : Out Reply Kept). out (x .answer) (watchedOf m)) (request-ships image m h (request.saves room wall size))
-any-ships image m h r (request.loads bytes wall clock) o =
-    let q = request.loads bytes wall clock in
-    let x = serveOf image m q in
-    let w = numbersOf (windowsOf (m .cart)) in
-    ap (λ (x : Out Reply Kept). out (x .answer) (record { kept = x .left; windows = windowsAfter (x .left .state) w }))
-    (request-ships image m h q)
-    ∙ ap (λ (l : List ℕ). out (x .answer) (record { kept = keptOf (x .left); windows = l }))
-    (windows-are (x .left) (serve-sound image m h q o) w)
+module _ (image : List ℕ) (m : Machine) (h : Sound m) (r : Ready image m) where
+  serve-stays : (q : Request) → Stays q (serveOf image m q .answer .number) → windowsOf (serveOf image m q .left .cart) ≡ windowsOf (m .cart)
+  serve-stays (request.bus a) s = access-stays image m h r a s
+  serve-stays (request.asks size) s = refl
+  serve-stays (request.saves room wall size) s = refl
+  serve-stays (request.loads bytes wall clock) s = go (answerTo m bytes wall) s
+    where
+      go : (x : Loaded) → (loadedNumber x ≡ 0 → ⊥) → windowsOf (cartBy (m .cart) x) ≡ windowsOf (m .cart)
+      go (loaded.Whole d) n = absurd (n refl)
+      go loaded.RamOnly n = refl
+      go (loaded.Refuse w) n = refl
+  serve-stays (request.looks words) s = refl
+  serve-stays (request.mounts wall) s = go (mount.mountOf image (m .area) wall) s
+    where
+      go : (x : Mounted) → (mountNumber x ≡ 0 → ⊥) → windowsOf (cartMounted (m .cart) x) ≡ windowsOf (m .cart)
+      go (mounted.To d) n = absurd (n refl)
+      go (mounted.Refuse w) n = refl
 
--- The numbers, rooms and words are those of the calls on the cartridge, and so are the bytes, the area and the windows that are left.
-pub all-ship : (image : List ℕ) (m : Machine) → Sound m → Ready image m → (qs : List Request) → Octets qs
-    → allOf image (watchedOf m) qs ≡ outs (servesOf image m qs .answers) (watchedOf (servesOf image m qs .left))
-all-ship image m h r qs o =
-    along-ships (anyOf image) (serveOf image) watchedOf (λ k. Sound k × Ready image k) Octet Octets (λ q rest os. os)
-    (λ k s q b. any-ships image k (s .0) (s .1) q b) (λ k s q b. (serve-sound image k (s .0) q b, serve-ready image k (s .1) q b)) m
-    (h, r) qs o
+  -- ---- one call
 
--- ---- the same of calls that were made
+  with-windows : {x y : Out Reply Kept} {v u : List ℕ} → x ≡ y → v ≡ u → passedOf x v ≡ passedOf y u
+  with-windows p q = cc
 
-done-with : {x y : Out Reply Kept} {v w : List ℕ} → x ≡ y → v ≡ w
-    → _≡_ {A = Out Reply Watched} (out (x .answer) (record { kept = x .left; windows = v }))
-    (out (y .answer) (record { kept = y .left; windows = w }))
-done-with p q = cc
+  any-ships : {q : Request} → Octet q → {x : Out Reply Watched} → MadeAny image (watchedOf m) q x
+      → x ≡ out (serveOf image m q .answer) (watchedOf (serveOf image m q .left))
+  any-ships o (access made) = ap bare (through-step image m h r o made)
+  any-ships {q} o (other made n) =
+      let e = other-is made ∙ request-ships image m h q in
+      with-windows e
+      (renewed-are (serveOf image m q .left) (serve-sound image m h q o) (ap (λ (y : Out Reply Kept). y .left .state) e)
+      (λ s. ap numbersOf (sym (serve-stays q (subst (λ (y : Out Reply Kept). Stays q (y .answer .number)) e s)))) n)
 
-pub made-any-is : {image : List ℕ} {k : Watched} {q : Request} {x : Out Reply Watched} → MadeAny image k q x → x ≡ anyOf image k q
-made-any-is (access m) = ap bare (made-through-is m)
-made-any-is (sized m) = done-with (request-is m) refl
-made-any-is (saved m) = done-with (request-is m) refl
-made-any-is (loaded m d s t) =
-    let e = request-is m in
-    done-with e (of-two windowsAfter (s ∙ ap (λ (y : Out Reply Kept). y .left .state) e) t (d .known .1))
+-- ---- any list of them
 
--- So after an `imf_mount` that answered 0, and an `imf_windows` on what it left, any list of exported calls that were made, accesses
--- through windows and saves among them, answers and leaves what the calls on the mounted cartridge do.
+-- After an `imf_mount` that answered 0, and an `imf_windows` on what it left, any list of exported calls that were made, accesses
+-- through windows or not and saves among them, answers and leaves what the calls on the mounted cartridge do.
 pub made-all-ship : (c : Call imf-mount.Learnt) (x : MountsBy c) (d : Call imf-windows.Learnt) → now (d .passed .0) ≡ keptBy c .state
     → (qs : List Request) → Octets qs
     → {got : Outs Reply Watched} → AllMadeAny (now (c .passed .1 .0)) (watchedBy c d) qs got
     → let served = servesOf (now (c .passed .1 .0)) (mountedBy c x) qs in got ≡ outs (served .answers) (watchedOf (served .left))
-made-all-ship c x d e qs o made =
+made-all-ship c x d e qs o {got} made =
     let image = now (c .passed .1 .0) in
-    along-are (anyOf image) (λ k q y m. made-any-is m) made
-    ∙ ap (λ (k : Watched). allOf image k qs) (watched-mounted c x d e)
-    ∙ all-ship image (mountedBy c x) (x .sound) (mounted-ready c x) qs o
+    let all =
+    along-follows (MadeAny image) (serveOf image) (Watches image) Octet Octets (λ q rest os. os) step
+    (mountedBy c x) (watchedBy c d) (watched-mounted c x d e) qs o got made in
+    both-outs (all .0) (all .1 .is)
+  where
+    step : (m : Machine) (k : Watched) → Watches (now (c .passed .1 .0)) m k → (q : Request) → Octet q → (y : Out Reply Watched)
+        → MadeAny (now (c .passed .1 .0)) k q y
+        → (y .answer ≡ serveOf (now (c .passed .1 .0)) m q .answer) × Watches (now (c .passed .1 .0)) (serveOf (now (c .passed .1 .0)) m q .left) (y .left)
+    step m k w q b y made =
+        let image = now (c .passed .1 .0) in
+        taken-apart (any-ships image m (w .sound) (w .ready) b (subst (λ (j : Watched). MadeAny image j q y) (w .is) made))
+        (serve-sound image m (w .sound) q b) (serve-ready image m (w .ready) q b)

@@ -26,3 +26,19 @@ module _ {Q X S T : Type 0} (f : S → Q → Out X S) (g : T → Q → Out X T) 
   pub along-stays : (m : T) → P m → (qs : List Q) → Os qs → P (along g m qs .left)
   along-stays m p [] o = p
   along-stays m p (q ∷ qs) o = let os = parts q qs o in along-stays (g m q .left) (stays m p q (os .0)) qs (os .1)
+
+-- calls that were made on a thing of S answer as g does on one of T, where R holds between the two and O of each request
+module _ {Q X S T : Type 0} (Made : S → Q → Out X S → Type 0) (g : T → Q → Out X T) (R : T → S → Type 0) (O : Q → Type 0)
+    (Os : List Q → Type 0) (parts : (q : Q) (qs : List Q) → Os (q ∷ qs) → O q × Os qs)
+    (step : (m : T) (k : S) → R m k → (q : Q) → O q → (x : Out X S) → Made k q x → (x .answer ≡ g m q .answer) × R (g m q .left) (x .left)) where
+  pub along-follows : (m : T) (k : S) → R m k → (qs : List Q) → Os qs → (r : Outs X S) → Along Made k qs r
+      → (r .answers ≡ along g m qs .answers) × R (along g m qs .left) (r .left)
+  along-follows m k h [] o r end = (refl, h)
+  along-follows m k h (q ∷ qs) o r (next {x = x} {r = rest} made more) =
+      let os = parts q qs o in
+      let s = step m k h q (os .0) x made in
+      let t = along-follows (g m q .left) (x .left) (s .1) qs (os .1) rest more in
+      (both (s .0) (t .0), t .1)
+    where
+      both : {a b : X} {as′ bs : List X} → a ≡ b → as′ ≡ bs → (a ∷ as′) ≡ (b ∷ bs)
+      both p q = cc

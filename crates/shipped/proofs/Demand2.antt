@@ -31,7 +31,7 @@ use Rattle.shipped.specs.Through.{Watched}
 use Rattle.shipped.specs.Made.{Call, AllMade, MadeRequest, AllMadeThrough}
 use Rattle.shipped.specs.Mounted.{watchedBy, MountsBy, keptBy, gameBy}
 use Rattle.shipped.proofs.Made.{all-made-are}
-use Rattle.shipped.proofs.Shipped.{calls-ship, started-in-time, run-sound}
+use Rattle.shipped.proofs.Shipped.{calls-ship, mount-sound, run-sound}
 use Rattle.shipped.proofs.Saves.{request-ships, serve-sound}
 use Rattle.shipped.proofs.Mounted.{mount-leaves}
 use Rattle.shipped.proofs.MadeSaves.{request-is}
@@ -56,13 +56,7 @@ game-ships g file r c h accesses o u =
 -- ---- and what it leaves is sound
 
 mounted-sound : (g : Game) → g .wall < 2 ^ 64 → Sound (mountedMachine g)
-mounted-sound g h =
-    let t = mount-taken (g .image) (g .area) (g .wall) (g .cart) (g .mounts) in
-    record {
-      fit = mount-fit (g .image) (g .area) (g .wall) (g .cart) (g .mounts);
-      timed =
-          subst (λ (x : Cartridge). InTime (x .mapper)) (sym (t .is)) (started-in-time (t .facts) (length (g .image)) (g .wall) h);
-    }
+mounted-sound g h = mount-sound (g .image) (g .area) (g .wall) (g .cart) h (g .mounts)
 
 game-sound : (g : Game) (file : Option (List ℕ)) → g .wall < 2 ^ 64 → Sound (begins g file)
 game-sound g none h = mounted-sound g h

@@ -10,6 +10,7 @@ pub mod Shipped
 pub mod Mounted
 pub mod AnyBytes
 pub mod PlainSaves
+pub mod PlainWindows
 pub mod Saves
 pub mod MadeSaves
 pub mod Through

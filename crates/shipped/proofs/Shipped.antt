@@ -33,7 +33,7 @@ use Rattle.player.specs.Bus.{mountNumber, mountState, mountOf, stateMounted, wr
 use Rattle.runs.specs.Calls.{Octets, Octet}
 use Rattle.runs.proofs.BusLaws as laws
 use Rattle.shipped.specs.Sequence.{Kept, callOf, callsOf, kept}
-use Rattle.shipped.specs.Ships.{numberOf, keptOf, calledOf, Sound, Said, numbered, numbersOf}
+use Rattle.shipped.specs.Ships.{numberOf, keptOf, calledOf, Sound, numbered, numbersOf}
 use Rattle.shipped.specs.Along.{Outs, outs, before, along}
 use Rattle.shipped.specs.Mounted.{Mounts}
 use Rattle.shipped.proofs.InTimeLaws as timing
@@ -76,18 +76,19 @@ in-time-at s o = every-kind s (λ (k : ℕ) (m : Mapper). InTime m) tt tt tt tt 
 pub decoded-in-time : (s : List ℕ) (c : Cartridge) → bytes.Octets s → decodeOf s ≡ To c → InTime (c .mapper)
 decoded-in-time s c o = decoded-has s c (λ (x : Cartridge). InTime (x .mapper)) (in-time-at s o (bytes.fieldAt 1 s 0))
 
--- so any bytes that are the encoding of the fit cartridge that they decode to are such,
-pub bytes-ship : (image s ram : List ℕ) (c : Cartridge) → bytes.Octets s → decodeOf s ≡ To c → encodeOf c ≡ s → fitCart c ≡ true
-    → (accesses : List Access) → Octets accesses
-    → callsOf image (kept s ram) accesses ≡ calledOf accesses (runOf image (record { cart = c; area = ram }) accesses)
-bytes-ship image s ram c octets e again fit accesses o =
-    ap (λ (t : List ℕ). callsOf image (record { state = t; area = ram }) accesses) (sym again)
-    ∙ calls-ship image (record { cart = c; area = ram }) (record { fit = fit; timed = decoded-in-time s c octets e }) accesses o
-
--- and so is what `imf_mount` leaves where it answers 0.
-pub started-in-time : (d : Facts) (n wall : ℕ) → wall < 2 ^ 64 → InTime (mount.cartOf d n wall .mapper)
+-- and so has what `imf_mount` leaves where it answers 0.
+started-in-time : (d : Facts) (n wall : ℕ) → wall < 2 ^ 64 → InTime (mount.cartOf d n wall .mapper)
 unfolding mount.cartOf
 started-in-time d n wall h = timing.start-in-time (d .kind) (d .multicart) wall h
+
+pub mount-sound : (image ram : List ℕ) (wall : ℕ) (c : Cartridge) → wall < 2 ^ 64 → mount.mountOf image ram wall ≡ mounted.To c
+    → Sound (record { cart = c; area = mount.areaAfter image ram wall })
+mount-sound image ram wall c h e =
+    let t = laws.mount-taken image ram wall c e in
+    record {
+      fit = laws.mount-fit image ram wall c e;
+      timed = subst (λ (x : Cartridge). InTime (x .mapper)) (sym (t .is)) (started-in-time (t .facts) (length image) wall h);
+    }
 
 pub mount-ships : (s image ram : List ℕ) (wall : ℕ) → wall < 2 ^ 64 → mountOf image ram wall ≡ 0 → Mounts s image ram wall
 unfolding mountOf stateMounted
@@ -95,84 +96,10 @@ mount-ships s image ram wall h e = go (mount.mountOf image ram wall) refl e
   where
     go : (a : Mounted) → mount.mountOf image ram wall ≡ a → mountNumber a ≡ 0 → Mounts s image ram wall
     go (mounted.To c) p q =
-        let t = laws.mount-taken image ram wall c p in
         record {
           cart = c;
           mounted = p;
           left = ap (λ (x : Mounted). kept (mountState s x) (mount.areaAfter image ram wall)) p;
-          sound =
-              record {
-                fit = laws.mount-fit image ram wall c p;
-                timed = subst (λ (x : Cartridge). InTime (x .mapper)) (sym (t .is)) (started-in-time (t .facts) (length image) wall h);
-              };
+          sound = mount-sound image ram wall c h p;
         }
     go (mounted.Refuse w) p q = absurd (omega (arith, q, mount-some w))
-
--- ---- 3. refused calls
-
--- A call that answers a number of the table has changed nothing, whatever bytes it was lent; a read changes nothing at all.
-pub refused-write-keeps : (image : List ℕ) (k : Kept) (addr byte j : ℕ) → callOf image k (run.writes addr byte) .answer ≡ suc j
-    → callOf image k (run.writes addr byte) .left ≡ k
-unfolding writeOf stateWritten areaWritten
-refused-write-keeps image k addr byte j e = go (decodeOf (k .state)) e
-  where
-    left : WriteAnswer → List ℕ → Kept
-    left a ram = kept (writeState (k .state) a) ram
-
-    stays : (c : Cartridge) (a : WriteAnswer) → bus.writeOf c (k .area) addr byte ≡ a → writeNumber a ≡ suc j
-        → left a (bus.areaAfter c (k .area) addr byte) ≡ k
-    stays c (write.Done d) p q = absurd (omega (arith, q))
-    stays c (write.Refuse w) p q =
-        ap (λ (ram : List ℕ). record { state = k .state; area = ram }) (laws.refused-area c (k .area) addr byte w p)
-
-    go : (d : Decoded) → onState (λ c. writeNumber (bus.writeOf c (k .area) addr byte)) 13 d ≡ suc j
-        → _≡_ {A = Kept}
-        (record {
-          state = onState (λ c. writeState (k .state) (bus.writeOf c (k .area) addr byte)) (k .state) d;
-          area = onState (λ c. bus.areaAfter c (k .area) addr byte) (k .area) d;
-        }) k
-    go (To c) q = stays c (bus.writeOf c (k .area) addr byte) refl q
-    go NoState q = refl
-
-pub refused-advance-keeps : (image : List ℕ) (k : Kept) (n j : ℕ) → callOf image k (run.clocks n) .answer ≡ suc j
-    → callOf image k (run.clocks n) .left ≡ k
-unfolding advanceOf stateAdvanced
-refused-advance-keeps image k n j e = go (decodeOf (k .state)) e
-  where
-    stays : (a : Advanced) → advanceNumber a ≡ suc j → _≡_ {A = Kept} (kept (advanceState (k .state) a) (k .area)) k
-    stays (advanced.To d) q = absurd (omega (arith, q))
-    stays (advanced.Refuse w) q = refl
-
-    go : (d : Decoded) → onState (λ c. advanceNumber (advance.advanceOf c n)) 13 d ≡ suc j
-        → _≡_ {A = Kept}
-        (record { state = onState (λ c. advanceState (k .state) (advance.advanceOf c n)) (k .state) d; area = k .area }) k
-    go (To c) q = stays (advance.advanceOf c n) q
-    go NoState q = refl
-
-pub read-keeps : (image : List ℕ) (k : Kept) (addr : ℕ) → callOf image k (run.reads addr) .left ≡ k
-read-keeps image k addr = refl
-
--- ---- 4. the numbers tell the answers apart
-
-pub number-tells : (a : Access) (x y : Answer) → Said a x → Said a y → numberOf a x ≡ numberOf a y → x ≡ y
-number-tells (run.reads addr) (run.gave b) (run.gave d) p q e = ap run.gave e
-number-tells (run.reads addr) (run.gave b) run.took p q e = absurd q
-number-tells (run.reads addr) (run.gave b) (run.refused k) p q e = absurd (omega (arith, p, e))
-number-tells (run.reads addr) run.took y p q e = absurd p
-number-tells (run.reads addr) (run.refused k) (run.gave b) p q e = absurd (omega (arith, q, e))
-number-tells (run.reads addr) (run.refused k) run.took p q e = absurd q
-number-tells (run.reads addr) (run.refused k) (run.refused j) p q e = ap run.refused (omega (arith, e))
-number-tells (run.writes addr byte) (run.gave b) y p q e = absurd p
-number-tells (run.writes addr byte) run.took (run.gave b) p q e = absurd q
-number-tells (run.writes addr byte) run.took run.took p q e = refl
-number-tells (run.writes addr byte) run.took (run.refused k) p q e = absurd (omega (arith, q, e))
-number-tells (run.writes addr byte) (run.refused k) (run.gave b) p q e = absurd q
-number-tells (run.writes addr byte) (run.refused k) run.took p q e = absurd (omega (arith, p, e))
-number-tells (run.writes addr byte) (run.refused k) (run.refused j) p q e = ap run.refused e
-number-tells (run.clocks n) (run.gave b) y p q e = absurd p
-number-tells (run.clocks n) run.took (run.gave b) p q e = absurd q
-number-tells (run.clocks n) run.took run.took p q e = refl
-number-tells (run.clocks n) run.took (run.refused k) p q e = absurd (omega (arith, q, e))
-number-tells (run.clocks n) (run.refused k) (run.gave b) p q e = absurd q
-number-tells (run.clocks n) (run.refused k) run.took p q e = absurd (omega (arith, p, e))
-number-tells (run.clocks n) (run.refused k) (run.refused j) p q e = ap run.refused e

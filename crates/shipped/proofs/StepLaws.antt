@@ -98,7 +98,7 @@ step-any image s m e (run.clocks n) =
     go (advanced.Refuse w) = refl
 
 -- of the cartridge's own they are the next one's own
-own : (image : List ℕ) (m : Machine) (a : Access) → stateOf (encodeOf (m .cart)) m a ≡ encodeOf (stepOf image m a .left .cart)
+pub own : (image : List ℕ) (m : Machine) (a : Access) → stateOf (encodeOf (m .cart)) m a ≡ encodeOf (stepOf image m a .left .cart)
 own image m (run.reads addr) = ap (λ (x : Machine). encodeOf (x .cart)) (sym (read-left image m addr))
 own image m (run.writes addr byte) = go (bus.writeOf (m .cart) (m .area) addr byte)
   where

@@ -1,25 +1,18 @@
--- What ships, through windows. Assumes nothing.
+-- What ships, through windows: each access that was made is the bus's access on the cartridge. Assumes nothing.
 use mathlib.Core.Bool.{Bool, true, false}
 use mathlib.Core.List.{List, [], _∷_}
+use mathlib.Core.Logic.{_⊎_, inl, inr}
 use mathlib.Core.Path.{_≡_, refl, sym, ap, _∙_, subst}
 use Prim.Native.Nat.{ℕ, zero, suc, _%_, _<_, _≤_}
 use native.Mathlib.Omega.{arith}
+use denote.Ref.{now}
 use lib.Dec.{eqb, ltb}
 use lib.ListN.{length, getD, set}
-use borrow.Author.Tests.{lt-ltb, le-ltb, ltb-true, ltb-false}
+use borrow.Author.Tests.{ltb-true, ltb-false}
 use Rattle.facts.specs.Choice.{pick, both}
 use Rattle.facts.specs.Refusals.{No, firstNo}
-use Rattle.facts.proofs.ChoiceLaws.{pick-has}
-use Rattle.banking.specs.Banks.{romPlace}
-use Rattle.banking.specs.declared.RamAt.{RamAt}
-use Rattle.mbc3.specs.Registers as mbc3
-use Rattle.mbc3.specs.declared.Mbc3 as mbc3-state
-use Rattle.timer.specs.ClockWindow.{onClock}
+use Rattle.facts.proofs.ChoiceLaws.{pick-has, false≢true}
 use Rattle.mapper.specs.Mappers as mapper
-use Rattle.mapper.specs.declared.Mapper.{Mapper}
-use Rattle.mapper.specs.declared.Mapper.the-variants.{NoMapper, Mbc1, Mbc2, Mbc3, Mbc5}
-use Rattle.window.specs.Window as window
-use Rattle.window.specs.declared.Way.the-variants.{Bytes, Timer}
 use Rattle.cartridge.specs.declared.Cartridge.{Cartridge}
 use Rattle.access.specs.Verdict.{inRam, noes, verdictOf}
 use Rattle.access.specs.declared.BusRefusal.{BusRefusal}
@@ -29,92 +22,87 @@ use Rattle.access.specs.declared.Verdict.the-variants as verdict
 use Rattle.access.proofs.Laws.{above-rom, below-ram, above-ram}
 use Rattle.bus.specs.Bus as bus
 use Rattle.bus.specs.Advance as advance
-use Rattle.bus.specs.Run.{Access, Machine, afterWrite, afterClocks, stepOf, runOf, Ready}
+use Rattle.bus.specs.Run.{Access, Machine, afterWrite, afterClocks, stepOf, Ready}
 use Rattle.bus.specs.Run as run
 use Rattle.bus.specs.declared.ReadAnswer.{ReadAnswer}
 use Rattle.bus.specs.declared.ReadAnswer.the-variants as read
 use Rattle.bus.specs.declared.WriteAnswer.{WriteAnswer}
+use Rattle.bus.specs.declared.WriteAnswer.the-variants as write
 use Rattle.bus.specs.declared.Advanced.{Advanced}
 use Rattle.bus.specs.declared.Advanced.the-variants as advanced
 use Rattle.states.specs.Layout.{encodeOf}
-use Rattle.states.specs.Plain.{plainMapper, plain}
 use Rattle.states.specs.OnState.{onState}
-use Rattle.states.proofs.Back.{fit-plain}
-use Rattle.states.proofs.Unused as unused
-use Rattle.flat_write.specs.Calls.{stateWritten, areaWritten, stateAdvanced}
-use Rattle.windows.specs.Windows.{window, unmapped, byWay, ramAt, romAt, windowsFrom, windowsBy, windowsOf, askOf, asksOf}
+use Rattle.windows.specs.Windows.{windowsOf, askOf, asksOf}
 use Rattle.windows.specs.Through.{placeIn, fromRead, putBy, putOf, areaBy, areaAfter}
 use Rattle.windows.specs.declared.Windows.{Windows}
-use Rattle.windows.specs.declared.RamWindow.{RamWindow}
+use Rattle.windows.specs.declared.Asked.{Asked}
 use Rattle.windows.specs.declared.Asked.the-variants as asked
 use Rattle.windows.specs.declared.Seen.{Seen}
-use Rattle.windows.specs.declared.Seen.the-variants as seen
+use Rattle.windows.specs.declared.Seen.the-variants as seen-by
 use Rattle.windows.specs.declared.Put.{Put}
 use Rattle.windows.specs.declared.Put.the-variants as put
 use Rattle.windows.proofs.Laws.{put-low, put-ram, put-outside}
 use Rattle.windows.proofs.Same.{window-read, only-15, window-write, unasked-write-keeps, outside-is-refused, windows-stay-in-ram-write, windows-stay-in-advance}
-use Rattle.player.specs.Bus.{readNumber, readOf, writeOf, advanceOf}
-use Rattle.player.specs.Windows.{numbersOf, askedWindows, seenNumber, putNumber, windowsAfter, windowRead, windowWrite, areaThrough}
-use Rattle.runs.specs.Calls.{Octet, Octets}
+use Rattle.player.specs.Bus.{readNumber, readOf}
+use Rattle.player.specs.Windows.{numbersOf, askedWindows, seenNumber, putNumber, ask, windowsAfter, windowRead, windowWrite, areaThrough}
+use Rattle.player.proofs.imf_window_read.Reads as imf-window-read
+use Rattle.player.proofs.imf_window_write.Reads as imf-window-write
+use Rattle.runs.specs.Calls.{Octet}
 use Rattle.runs.proofs.BusLaws as laws
-use Rattle.runs.proofs.RunLaws.{read-left, run-ready}
-use Rattle.shipped.specs.Sequence.{callOf, Kept}
+use Rattle.runs.proofs.RunLaws.{read-left}
+use Rattle.shipped.specs.Sequence.{callOf, Kept, kept}
 use Rattle.shipped.specs.Ships.{numberOf, keptOf, Sound}
-use Rattle.shipped.specs.Ships as ships
-use Rattle.shipped.specs.Through.{passed, askedOf, throughOf, throughAll, watchedOf, passedOf}
-use Rattle.shipped.specs.Along.{Out, Outs, out, outs}
+use Rattle.shipped.specs.Through.{Watched, watchedOf, passedOf}
+use Rattle.shipped.specs.Along.{Out, out}
+use Rattle.shipped.specs.Made.{Call, StaysIn, Renewed, same, anew, MadeThrough, seen}
+use Rattle.shipped.specs.Made as made
 use Rattle.shipped.proofs.PlainLaws.{read-plain}
+use Rattle.shipped.proofs.PlainWindows.{ask-plain}
 use Rattle.shipped.proofs.StepLaws.{decoded, step-ships, step-sound}
-use Rattle.shipped.proofs.AlongLaws.{along-ships}
-use Rattle.shipped.proofs.Shipped.{numbered-run}
-
--- ---- a cartridge and its plain one have the same windows
-
-way-plain : (b : Bool) (p : RamAt) (x y : mbc3-state.Mbc3) (size : ℕ) → onClock x ≡ onClock y
-    → byWay (pick b (Bytes p) (Timer x)) size ≡ byWay (pick b (Bytes p) (Timer y)) size
-way-plain true p x y size e = refl
-way-plain false p x y size e = ap (λ (t : Bool). pick t (window 0 0 3) unmapped) e
-
-ram-plain : (m : Mapper) (size : ℕ) → ramAt (plainMapper m) size ≡ ramAt m size
-unfolding ramAt mbc3.ramAt
-ram-plain (NoMapper m) size = refl
-ram-plain (Mbc1 m) size = refl
-ram-plain (Mbc2 m) size = refl
-ram-plain (Mbc3 m) size =
-    pick-has (λ (x : mbc3-state.Mbc3). byWay (window.wayOf (Mbc3 x) size 0xA000) size ≡ byWay (window.wayOf (Mbc3 m) size 0xA000) size) (m .timer)
-    refl (way-plain (m .memory) (mbc3.ramAt m size 0xA000) _ m size refl)
-ram-plain (Mbc5 m) size = refl
-
-windows-plain : (c : Cartridge) → windowsOf (plain c) ≡ windowsOf c
-unfolding plain windowsBy romAt
-windows-plain c =
-    three (unused.bank-plain (c .mapper) 0) (unused.bank-plain (c .mapper) 0x4000) (ram-plain (c .mapper) (c .size))
-  where
-    three : {i j k l : ℕ} {x y : RamWindow} → i ≡ j → k ≡ l → x ≡ y
-        → windowsFrom (romPlace (c .banks) i 0) (romPlace (c .banks) k 0x4000) x
-        ≡ windowsFrom (romPlace (c .banks) j 0) (romPlace (c .banks) l 0x4000) y
-    three p q r = cc
+use Rattle.shipped.proofs.Made.{of-one, of-two, made-is}
 
 -- `imf_windows` on the bytes of a sound cartridge gives its windows.
 pub windows-are : (m : Machine) → Sound m → (n : List ℕ) → windowsAfter (encodeOf (m .cart)) n ≡ numbersOf (windowsOf (m .cart))
 unfolding windowsAfter askOf
 windows-are m h n =
     ap (onState (λ k. askedWindows n (askOf k)) n) (decoded m h)
-    ∙ ap (λ (b : Bool). askedWindows n (pick b (asked.To (windowsOf (plain (m .cart)))) asked.Unfit)) (fit-plain (m .cart) ∙ h .fit)
-    ∙ ap numbersOf (windows-plain (m .cart))
+    ∙ ap (λ (x : Asked). askedWindows n x) (ask-plain (m .cart))
+    ∙ ap (λ (b : Bool). askedWindows n (pick b (asked.To (windowsOf (m .cart))) asked.Unfit)) (h .fit)
+
+-- Kept where they stay or asked for anew, they are those of what is left.
+pub renewed-are : {stays : Type 0} {s w v : List ℕ} (m : Machine) → Sound m → s ≡ encodeOf (m .cart)
+    → (stays → w ≡ numbersOf (windowsOf (m .cart))) → Renewed stays s w v → v ≡ numbersOf (windowsOf (m .cart))
+renewed-are m h e f (same y) = f y
+renewed-are m h e f (anew d p) =
+    of-one (λ s. windowsAfter s (now (d .passed .1 .0))) (p ∙ e) (d .known .1) ∙ windows-are m h (now (d .passed .1 .0))
+
+-- what is learnt of the calls through windows, of what the player keeps
+read-known : (image : List ℕ) (k : Watched) (c : Call imf-window-read.Learnt) → now (c .passed .0) ≡ k .windows → now (c .passed .1 .0) ≡ image
+    → now (c .passed .1 .1 .0) ≡ k .kept .area → c .answer ≡ windowRead (k .windows) image (k .kept .area) (c .passed .1 .1 .1 .0)
+read-known image k c p q r =
+    let addr = c .passed .1 .1 .1 .0 in
+    of-two (λ w ram. windowRead w image ram addr) p r
+    (of-one (λ l. windowRead (now (c .passed .0)) l (now (c .passed .1 .1 .0)) addr) q (c .known))
+
+put-known : {w : List ℕ} (c : Call imf-window-write.Learnt) → now (c .passed .0) ≡ w → c .answer ≡ windowWrite w (c .passed .1 .1 .0)
+put-known c p = of-one (λ w. windowWrite w (c .passed .1 .1 .0)) p (c .known .0)
+
+area-known : {w ram : List ℕ} (c : Call imf-window-write.Learnt) → now (c .passed .0) ≡ w → now (c .passed .1 .0) ≡ ram
+    → now (c .left .1 .0) ≡ areaThrough w ram (c .passed .1 .1 .0) (c .passed .1 .1 .1 .0)
+area-known c p q = of-two (λ w ram. areaThrough w ram (c .passed .1 .1 .0) (c .passed .1 .1 .1 .0)) p q (c .known .1)
 
 -- ---- one access
 
--- what the windows ask for, they answer not; what they answer, the state answers too
-chosen : (b : Bool) (n r : ℕ) → n ≡ pick b 0x200 r → pick (eqb n 0x200) r n ≡ r
-chosen true n r e = ap (λ (k : ℕ). pick (eqb k 0x200) r k) e
-chosen false n r e = ap (λ (k : ℕ). pick (eqb k 0x200) r k) e ∙ pick-has (λ (x : ℕ). x ≡ r) (eqb r 0x200) refl refl
+-- what the windows answer, the state answers too
+unasked : (b : Bool) (n r : ℕ) → n ≡ pick b 0x200 r → eqb n 0x200 ≡ false → n ≡ r
+unasked true n r e f = false≢true (sym f ∙ ap (λ (k : ℕ). eqb k 0x200) e)
+unasked false n r e f = e
 
 pub number-same : (a : ReadAnswer) → ((w : BusRefusal) → a ≡ read.Refuse w → w ≡ BadAddress) → seenNumber (fromRead a) ≡ readNumber a
 number-same (read.Byte b) h = refl
 number-same (read.Refuse w) h = ap (λ (x : BusRefusal). readNumber (read.Refuse x)) (sym (h w refl))
 
-pub asked-or : (b : Bool) (x : Seen) → seenNumber (pick b seen.Ask x) ≡ pick b 0x200 (seenNumber x)
+pub asked-or : (b : Bool) (x : Seen) → seenNumber (pick b seen-by.Ask x) ≡ pick b 0x200 (seenNumber x)
 asked-or true x = refl
 asked-or false x = refl
 
@@ -164,7 +152,10 @@ module _ (image : List ℕ) (m : Machine) (h : Sound m) (r : Ready image m) wher
       ∙ asked-or asks (fromRead answer)
       ∙ ap (pick asks 0x200) (number-same answer (only-15 cart image area addr r) ∙ sym (read-is addr))
 
-  -- the windows after an access that is no write below 0x8000
+  seen-is : (addr : ℕ) {n : ℕ} → n ≡ windowRead w image area addr → eqb n ask ≡ false → n ≡ readOf state image area addr
+  seen-is addr {n} e f = unasked (both (inRam addr) (asksOf cart)) n _ (e ∙ sees addr) f
+
+  -- the windows after an access that is no accepted write below 0x8000
   read-windows : (addr : ℕ) → windowsOf (stepOf image m (run.reads addr) .left .cart) ≡ windowsOf cart
   read-windows addr = ap (λ (x : Machine). windowsOf (x .cart)) (read-left image m addr)
 
@@ -185,28 +176,36 @@ module _ (image : List ℕ) (m : Machine) (h : Sound m) (r : Ready image m) wher
       go (advanced.To d) e = ap windowsOf (laws.advance-taken cart d n e .is) ∙ windows-stay-in-advance cart n
       go (advanced.Refuse why) e = refl
 
-  -- a write, by what the windows say of it
-  module _ (addr byte : ℕ) (o : byte < 256) where
+  refused-windows : (addr byte : ℕ) → (numberOf (run.writes addr byte) (stepOf image m (run.writes addr byte) .answer) ≡ 0 → ⊥)
+      → windowsOf (stepOf image m (run.writes addr byte) .left .cart) ≡ windowsOf cart
+  refused-windows addr byte = go (bus.writeOf cart area addr byte)
+    where
+      after : List ℕ
+      after = bus.areaAfter cart area addr byte
+
+      go : (x : WriteAnswer) → (numberOf (run.writes addr byte) (afterWrite m x after .answer) ≡ 0 → ⊥)
+          → windowsOf (afterWrite m x after .left .cart) ≡ windowsOf cart
+      go (write.Done d) n = absurd (n refl)
+      go (write.Refuse why) n = refl
+
+  pub access-stays : (a : Access) → StaysIn a (numberOf a (stepOf image m a .answer)) → windowsOf (stepOf image m a .left .cart) ≡ windowsOf cart
+  access-stays (run.reads addr) s = read-windows addr
+  access-stays (run.writes addr byte) (inl g) = write-windows addr byte g
+  access-stays (run.writes addr byte) (inr n) = refused-windows addr byte n
+  access-stays (run.clocks n) s = clock-windows n
+
+  -- what the windows say of a write: that the state be asked, and nothing is stored; or what the state answers and stores
+  module _ (addr byte : ℕ) where
     abbrev a : Access
     a = run.writes addr byte
 
-    abbrev after : List ℕ
-    after = numbersOf (windowsOf (stepOf image m a .left .cart))
+    abbrev Asks : Type 0
+    Asks = (windowWrite w addr ≡ ask) × (areaThrough w area addr byte ≡ area)
 
-    by-put : {p : Put} {l : List ℕ} → putOf (windowsOf cart) addr ≡ p → areaAfter (windowsOf cart) area addr byte ≡ l
-        → throughOf image (watchedOf m) a
-        ≡ pick (eqb (putNumber p) 0x200) (askedOf state l w addr byte) (passed (putNumber p) state l w)
-    unfolding windowWrite areaThrough
-    by-put {p} e g =
-        let l = areaAfter (windowsOf cart) area addr byte in
-        ap (λ (x : Put). pick (eqb (putNumber x) 0x200) (askedOf state l w addr byte) (passed (putNumber x) state l w)) e
-        ∙ ap (λ (x : List ℕ). pick (eqb (putNumber p) 0x200) (askedOf state x w addr byte) (passed (putNumber p) state x w)) g
-
-    asked-windows : {b : Bool} → ltb addr 0x8000 ≡ b → pick b (windowsAfter (stateWritten state area addr byte) w) w ≡ after
-        → askedOf state area w addr byte ≡ passedOf (callOf image (keptOf m) a) after
-    asked-windows e g =
-        ap (λ (x : List ℕ). passed (writeOf state area addr byte) (stateWritten state area addr byte) (areaWritten state area addr byte) x)
-        (ap (λ (b : Bool). pick b (windowsAfter (stateWritten state area addr byte) w) w) e ∙ g)
+    abbrev Answers : Type 0
+    Answers =
+        (eqb (windowWrite w addr) ask ≡ false)
+        × ((out (windowWrite w addr) (kept state (areaThrough w area addr byte)) ≡ callOf image (keptOf m) a) × (0x8000 ≤ addr))
 
     abbrev answeredOf : run.Left → Out ℕ Kept
     answeredOf x = out (numberOf a (x .answer)) (keptOf (x .left))
@@ -215,79 +214,104 @@ module _ (image : List ℕ) (m : Machine) (h : Sound m) (r : Ready image m) wher
         → callOf image (keptOf m) a ≡ answeredOf (afterWrite m x (bus.areaAfter cart area addr byte))
     answered e = step-ships image m h a ∙ ap (λ (x : WriteAnswer). answeredOf (afterWrite m x (bus.areaAfter cart area addr byte))) e
 
-    write-low : addr < 0x8000 → throughOf image (watchedOf m) a ≡ passedOf (callOf image (keptOf m) a) after
-    write-low g =
-        let p = put-low (windowsOf cart) area addr byte g in
-        by-put (sym (p .0)) (sym (p .1))
-        ∙ asked-windows (lt-ltb addr 0x8000 g)
-        (ap (λ (s : List ℕ). windowsAfter s w) (ap (λ (x : Out ℕ Kept). x .left .state) (step-ships image m h a))
-        ∙ windows-are (stepOf image m a .left) (step-sound image m h a o) w)
+    stored : {n k : ℕ} {l ram : List ℕ} → n ≡ k → l ≡ ram → _≡_ {A = Out ℕ Kept} (out n (kept state l)) (out k (kept state ram))
+    stored p q = cc
 
-    write-ram : 0xA000 ≤ addr → addr < 0xC000 → throughOf image (watchedOf m) a ≡ passedOf (callOf image (keptOf m) a) after
-    write-ram g l = go (asksOf cart) refl
+    puts-low : addr < 0x8000 → Asks
+    unfolding windowWrite areaThrough
+    puts-low g = let p = put-low (windowsOf cart) area addr byte g in (ap putNumber (sym (p .0)), sym (p .1))
+
+    puts-ram : 0xA000 ≤ addr → addr < 0xC000 → Asks ⊎ Answers
+    unfolding windowWrite areaThrough
+    puts-ram g l = go (asksOf cart) refl
       where
-        same : (putOf (windowsOf cart) addr ≡ pick (asksOf cart) put.Ask put.Done)
+        same-put : (putOf (windowsOf cart) addr ≡ pick (asksOf cart) put.Ask put.Done)
             × (areaAfter (windowsOf cart) area addr byte ≡ bus.areaAfter cart area addr byte)
-        same = window-write cart area addr byte (r .fit) (r .area) g l
+        same-put = window-write cart area addr byte (r .fit) (r .area) g l
 
-        stay : w ≡ after
-        stay = ap numbersOf (sym (write-windows addr byte (omega (arith, g))))
-
-        go : (b : Bool) → asksOf cart ≡ b → throughOf image (watchedOf m) a ≡ passedOf (callOf image (keptOf m) a) after
+        go : (b : Bool) → asksOf cart ≡ b → Asks ⊎ Answers
         go true e =
-            let asks = same .0 ∙ ap (λ (b : Bool). pick b put.Ask put.Done) e in
+            let asks = same-put .0 ∙ ap (λ (b : Bool). pick b put.Ask put.Done) e in
             let p = put-ram (windowsOf cart) area addr byte g l in
-            by-put asks (sym (p .1) ∙ ask-stores-none (windowsOf cart) area addr byte (p .0 ∙ asks))
-            ∙ asked-windows (le-ltb addr 0x8000 (omega (arith, g))) stay
+            inl (ap putNumber asks, sym (p .1) ∙ ask-stores-none (windowsOf cart) area addr byte (p .0 ∙ asks))
         go false e =
-            by-put (same .0 ∙ ap (λ (b : Bool). pick b put.Ask put.Done) e) (same .1)
-            ∙ ap (passed 0 state (bus.areaAfter cart area addr byte)) stay
-            ∙ sym (ap (λ (x : Out ℕ Kept). passedOf x after)
-            (answered (unasked-write-keeps cart area addr byte (r .fit) (r .area) g l e)))
+            let done = same-put .0 ∙ ap (λ (b : Bool). pick b put.Ask put.Done) e in
+            inr (
+              ap (λ (x : Put). eqb (putNumber x) 0x200) done,
+              (
+                stored (ap putNumber done) (same-put .1)
+                    ∙ sym (answered (unasked-write-keeps cart area addr byte (r .fit) (r .area) g l e)),
+                omega (arith, g),
+              ),
+            )
 
-    write-outside : 0x8000 ≤ addr → inRam addr ≡ false → throughOf image (watchedOf m) a ≡ passedOf (callOf image (keptOf m) a) after
-    write-outside g i =
-        let p = outside-is-refused cart area addr byte (r .fit) (r .area) g i in
-        by-put (p .0) (sym (put-outside (windowsOf cart) area addr byte g i .1))
-        ∙ ap (passed 15 state area) (ap numbersOf (sym (write-windows addr byte g)))
-        ∙ ap (λ (x : List ℕ). passed 15 state x after) (sym (laws.refused-area cart area addr byte BadAddress (p .1)))
-        ∙ sym (ap (λ (x : Out ℕ Kept). passedOf x after) (answered (p .1)))
+    puts-outside : 0x8000 ≤ addr → inRam addr ≡ false → Answers
+    unfolding windowWrite areaThrough
+    puts-outside g i =
+        let p = outside-is-refused cart area addr byte (r .fit) (r .area) g i in (
+          ap (λ (x : Put). eqb (putNumber x) 0x200) (p .0),
+          (
+            stored (ap putNumber (p .0))
+                (sym (put-outside (windowsOf cart) area addr byte g i .1) ∙ sym (laws.refused-area cart area addr byte BadAddress (p .1)))
+                ∙ sym (answered (p .1)),
+            g,
+          ),
+        )
 
-    write-through : throughOf image (watchedOf m) a ≡ passedOf (callOf image (keptOf m) a) after
-    write-through = go (ltb addr 0x8000) (ltb addr 0xA000) (ltb addr 0xC000) refl refl refl
+    puts : Asks ⊎ Answers
+    puts = go (ltb addr 0x8000) (ltb addr 0xA000) (ltb addr 0xC000) refl refl refl
       where
-        go : (x y z : Bool) → ltb addr 0x8000 ≡ x → ltb addr 0xA000 ≡ y → ltb addr 0xC000 ≡ z
-            → throughOf image (watchedOf m) a ≡ passedOf (callOf image (keptOf m) a) after
-        go true y z p q s = write-low (ltb-true addr 0x8000 p)
-        go false true z p q s = write-outside (ltb-false addr 0x8000 p) (below-ram addr (ltb-true addr 0xA000 q))
-        go false false true p q s = write-ram (ltb-false addr 0xA000 q) (ltb-true addr 0xC000 s)
-        go false false false p q s = write-outside (ltb-false addr 0x8000 p) (above-ram addr (ltb-false addr 0xC000 s))
+        go : (x y z : Bool) → ltb addr 0x8000 ≡ x → ltb addr 0xA000 ≡ y → ltb addr 0xC000 ≡ z → Asks ⊎ Answers
+        go true y z p q s = inl (puts-low (ltb-true addr 0x8000 p))
+        go false true z p q s = inr (puts-outside (ltb-false addr 0x8000 p) (below-ram addr (ltb-true addr 0xA000 q)))
+        go false false true p q s = puts-ram (ltb-false addr 0xA000 q) (ltb-true addr 0xC000 s)
+        go false false false p q s = inr (puts-outside (ltb-false addr 0x8000 p) (above-ram addr (ltb-false addr 0xC000 s)))
 
-  -- through the windows or not, the numbers and what is left are the same
-  same-call : (a : Access) → Octet a
-      → throughOf image (watchedOf m) a ≡ passedOf (callOf image (keptOf m) a) (numbersOf (windowsOf (stepOf image m a .left .cart)))
-  same-call (run.reads addr) o =
-      ap (λ (n : ℕ). out n (watchedOf m)) (chosen (both (inRam addr) (asksOf cart)) _ _ (sees addr))
-      ∙ ap (passed (readOf state image area addr) state area) (ap numbersOf (sym (read-windows addr)))
-  same-call (run.writes addr byte) o = write-through addr byte o
-  same-call (run.clocks n) o =
-      ap (passed (advanceOf state n) (stateAdvanced state n) area) (ap numbersOf (sym (clock-windows n)))
+  -- ---- an access that was made, through the windows or not
 
-  pub through-step : (a : Access) → Octet a
-      → throughOf image (watchedOf m) a
-      ≡ out (numberOf a (stepOf image m a .answer)) (watchedOf (stepOf image m a .left))
-  through-step a o =
-      same-call a o
-      ∙ ap (λ (x : Out ℕ Kept). passedOf x (numbersOf (windowsOf (stepOf image m a .left .cart)))) (step-ships image m h a)
+  with-windows : {x y : Out ℕ Kept} {v u : List ℕ} → x ≡ y → v ≡ u → passedOf x v ≡ passedOf y u
+  with-windows p q = cc
 
--- ---- any list of accesses
+  abbrev stepped : Access → Out ℕ Watched
+  stepped a = out (numberOf a (stepOf image m a .answer)) (watchedOf (stepOf image m a .left))
 
--- A player that keeps windows gets the numbers of the run on the cartridge, and keeps its bytes, its area and its windows.
-pub through-ships : (image : List ℕ) (m : Machine) → Sound m → Ready image m → (accesses : List Access) → Octets accesses
-    → throughAll image (watchedOf m) accesses
-    ≡ outs (ships.numbersOf accesses (runOf image m accesses .answers)) (watchedOf (runOf image m accesses .left))
-through-ships image m h r accesses o =
-    along-ships (throughOf image) (ships.numbered image) watchedOf (λ k. Sound k × Ready image k) Octet Octets (λ a as′ os. os)
-    (λ k s a b. through-step image k (s .0) (s .1) a b)
-    (λ k s a b. (step-sound image k (s .0) a b, run-ready image k (a ∷ []) (s .1) (b, tt))) m (h, r) accesses o
-    ∙ ap (λ (x : Outs ℕ Machine). outs (x .answers) (watchedOf (x .left))) (numbered-run image m accesses)
+  direct-ships : (a : Access) → Octet a → {x : Out ℕ Kept} {v : List ℕ} → x ≡ callOf image (keptOf m) a
+      → Renewed (StaysIn a (x .answer)) (x .left .state) w v → passedOf x v ≡ stepped a
+  direct-ships a o {x} p n =
+      let e = p ∙ step-ships image m h a in
+      with-windows e
+      (renewed-are (stepOf image m a .left) (step-sound image m h a o) (ap (λ (y : Out ℕ Kept). y .left .state) e)
+      (λ s. ap numbersOf (sym (access-stays a (subst (λ (y : Out ℕ Kept). StaysIn a (y .answer)) e s)))) n)
+
+  pub through-step : {a : Access} → Octet a → {x : Out ℕ Watched} → MadeThrough image (watchedOf m) a x → x ≡ stepped a
+  through-step o (seen c p q s f) =
+      let addr = c .passed .1 .1 .1 .0 in
+      direct-ships (run.reads addr) o (ap (λ (n : ℕ). out n (keptOf m)) (seen-is addr (read-known image (watchedOf m) c p q s) f)) (same tt)
+  through-step o (made.asked c p q s f made) = direct-ships (run.reads (c .passed .1 .1 .1 .0)) o (made-is made) (same tt)
+  through-step o (made.put c p q f) = go (puts addr byte)
+    where
+      addr : ℕ
+      addr = c .passed .1 .1 .0
+
+      byte : ℕ
+      byte = c .passed .1 .1 .1 .0
+
+      go : Asks addr byte ⊎ Answers addr byte
+          → passedOf (out (c .answer) (kept state (now (c .left .1 .0)))) w ≡ stepped (run.writes addr byte)
+      go (inl x) = false≢true (sym f ∙ ap (λ (n : ℕ). eqb n ask) (put-known c p ∙ x .0))
+      go (inr x) =
+          direct-ships (run.writes addr byte) o (stored addr byte (put-known c p) (area-known c p q) ∙ x .1 .0) (same (inl (x .1 .1)))
+  through-step o (made.written c p q f {x = y} made {w = v} n) = go (puts addr byte)
+    where
+      addr : ℕ
+      addr = c .passed .1 .1 .0
+
+      byte : ℕ
+      byte = c .passed .1 .1 .1 .0
+
+      go : Asks addr byte ⊎ Answers addr byte → passedOf y v ≡ stepped (run.writes addr byte)
+      go (inl x) =
+          direct-ships (run.writes addr byte) o
+          (made-is made ∙ ap (λ (l : List ℕ). callOf image (kept state l) (run.writes addr byte)) (area-known c p q ∙ x .1)) n
+      go (inr x) = false≢true (sym (ap (λ (n : ℕ). eqb n ask) (put-known c p) ∙ x .0) ∙ f)
+  through-step {a} o (made.direct made n) = direct-ships a o (made-is made) n

@@ -5,6 +5,5 @@ pub mod Agrees
 pub mod Moves
 pub mod Requests
 pub mod Through
-pub mod AllCalls
 pub mod Made
 pub mod Mounted

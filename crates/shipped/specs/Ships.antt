@@ -41,15 +41,3 @@ calledOf accesses r = outs (numbersOf accesses (r .answers)) (keptOf (r .left))
 pub record Sound (m : Machine) : Type 0 where
   pub fit : fitCart (m .cart) ≡ true
   pub timed : InTime (m .cart .mapper)
-
--- what an access can be answered: a read a byte or a no, the others that they are taken or a no that has a number
-abbrev pub Said : Access → Answer → Type 0
-Said (reads addr) (gave b) = b < 0x100
-Said (reads addr) took = ⊥
-Said (reads addr) (refused k) = Unit {0}
-Said (writes addr byte) (gave b) = ⊥
-Said (writes addr byte) took = Unit {0}
-Said (writes addr byte) (refused k) = 0 < k
-Said (clocks n) (gave b) = ⊥
-Said (clocks n) took = Unit {0}
-Said (clocks n) (refused k) = 0 < k
