@@ -2,13 +2,21 @@
  * imfelkuz.h: a Game Boy cartridge (header, MBC1, MBC2, MBC3 with its clock, MBC5, save file), for programs in C11 or C++17 that link
  * libplayer.a (Linux on x86-64 or aarch64).
  *
- *     imf_facts facts;
- *     imf_cart cart;
- *     if (imf_header(image, image_len, &facts) != 0) return;        // what the image is, and how much RAM it wants
- *     uint8_t *ram = malloc(facts.ram_area + 1);                    // never NULL, not even for no RAM
- *     imf_cart_mount(&cart, image, image_len, ram, facts.ram_area, time(NULL));
- *     imf_cart_write(&cart, 0x0000, 0x0A);                          // 0, or the number of a refusal
- *     uint32_t byte = imf_cart_read(&cart, 0xA000);                 // a byte, or IMF_REFUSED + the number
+ *     static uint8_t ram[IMF_RAM_MAX];                              // enough for every image
+ *
+ *     uint32_t first_of_ram(const uint8_t *image, size_t image_len, uint64_t now)    // now: the time in seconds
+ *     {
+ *         imf_facts facts;
+ *         imf_cart cart;
+ *         uint32_t no = imf_header(image, image_len, &facts);       // what the image is, and how much RAM it wants
+ *         if (no == 0)
+ *             no = imf_cart_mount(&cart, image, image_len, ram, facts.ram_area, now);
+ *         if (no == 0)
+ *             no = imf_cart_write(&cart, 0x0000, 0x0A);             // 0, or the number of a refusal
+ *         if (no != 0)
+ *             return IMF_REFUSED + no;
+ *         return imf_cart_read(&cart, 0xA000);                      // a byte, or IMF_REFUSED + the number
+ *     }
  *
  * WHAT IS PROVED, AND WHAT IS TESTED
  *   Proved: the calls of the library, imf_header to imf_window_write. Each answers, and leaves every lent byte, as its definition says,
@@ -26,8 +34,8 @@
  *   imf_save_in that brings a clock. An imf_advance without a timer, and a write through windows, leave the state as it is.
  *
  * WHAT A CALLER HAS TO KEEP
- *   1. No pointer is NULL, also where its length is 0. Behind a pointer with a length stand that many bytes, and the others point to
- *      one whole state, facts, windows or number.
+ *   1. No pointer is NULL, also where its length is 0: malloc may fail, and may give NULL for 0 bytes, so test it before lending.
+ *      Behind a pointer with a length stand that many bytes, and the others point to one whole state, facts, windows or number.
  *   2. Lent ranges do not overlap, unless both are declared const.
  *   3. A pointer to facts, windows or a number is aligned as its type. Bytes may stand anywhere.
  *   Nothing else is asked. Any 64 bytes may be lent as a state, any image, any length, any number: the answer is then a number of the
@@ -73,9 +81,8 @@
  *     - the RAM size is none of 0, 0x800, 0x2000, 0x8000, 0x10000 and 0x20000, or without a mapper above 0x2000,
  *     - MBC1: the low register is outside 1 to 31 (multicart: above 15), or the two-bit register above 3,
  *     - MBC2: the ROM bank is outside 1 to 15,
- *     - MBC3: the ROM bank is outside 1 to 255, or the RAM bank above 3; with a timer also where the selected clock register is above 4,
- *       the sub-second above 2,097,151, or of the clock or its frozen copy a second or minute above 63, an hour above 31 or a day above
- *       511,
+ *     - MBC3: the ROM bank is 0, or the RAM bank above 3; with a timer also where the selected clock register is above 4, the sub-second
+ *       above 2,097,151, or of the clock or its frozen copy a second or minute above 63, an hour above 31 or a day above 511,
  *     - MBC5: the ROM bank is above 511, or the RAM bank above 15.
  *   Fields that the kind does not use (with no timer, the clock and its selection) are not looked at. So more is taken than the library
  *   writes; what it writes is always taken.
@@ -170,9 +177,10 @@ enum imf_how {
     IMF_BY_STATE = 3    /* a clock register: ask imf_read and imf_write */
 };
 
-/* Where the windows stand. Only a write below 0x8000 and a save that is read move them: after either, ask imf_windows again. Whatever
- * the numbers are, no call over windows touches a byte that was not lent: a place past the image's end reads 0; one past the RAM area's
- * end reads 0xFF, and a write there answers 0 and writes nothing. (The _t keeps the type apart from the call.) */
+/* Where the windows stand. Ask imf_windows after a mounting, after each accepted write below 0x8000 and after each save that was read;
+ * until the next of these they stay, and a refused call moves nothing. Another state has windows of its own. Whatever the numbers are,
+ * no call over windows touches a byte that was not lent: a place past the image's end reads 0; one past the RAM area's end reads 0xFF,
+ * and a write there answers 0 and writes nothing. (The _t keeps the type apart from the call.) */
 typedef struct imf_windows_t {
     uint32_t rom0; /* the place in the image that 0x0000 shows */
     uint32_t romx; /* the place in the image that 0x4000 shows */

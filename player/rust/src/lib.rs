@@ -32,9 +32,9 @@
 //! # Ok::<(), imfelkuz::Refusal>(())
 //! ```
 //!
-//! Reads and RAM writes go through the cartridge's windows, which this crate keeps and asks for again after each register write: a
-//! few instructions in the caller's loop, and the fewest by way of [`Cartridge::bus`]. All else is a call into the library. No call
-//! panics, whatever the image, the save or the state holds; a refused one changes nothing.
+//! Reads and RAM writes go through the cartridge's windows, which this crate keeps and asks for again after each accepted register
+//! write and each save that was read: a few instructions in the caller's loop, and the fewest by way of [`Cartridge::bus`]. All else
+//! is a call into the library. No call panics, whatever the image, the save or the state holds; a refused one changes nothing.
 //!
 //! # What is proved, and what is tested
 //!
