@@ -8,11 +8,11 @@ pub mod ByteLaws
 pub mod Made
 pub mod Shipped
 pub mod Mounted
-pub mod AnyBytes
 pub mod PlainSaves
 pub mod PlainWindows
 pub mod Saves
 pub mod MadeSaves
+pub mod AnyBytes
 pub mod Through
 pub mod MadeThrough
 pub mod AllCalls

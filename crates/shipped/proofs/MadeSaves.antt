@@ -21,7 +21,7 @@ use Rattle.shipped.proofs.Mounted.{mount-leaves}
 use Rattle.shipped.proofs.Saves.{requests-ship}
 use Rattle.shipped.proofs.AlongLaws.{along-are}
 
-replied : {x y v w : ℕ} {a b s t ram area : List ℕ} → x ≡ y → a ≡ b → v ≡ w → s ≡ t → ram ≡ area
+pub replied : {x y v w : ℕ} {a b s t ram area : List ℕ} → x ≡ y → a ≡ b → v ≡ w → s ≡ t → ram ≡ area
     → _≡_ {A = Out Reply Kept} (out (reply x a v) (kept s ram)) (out (reply y b w) (kept t area))
 replied p q r e f = cc
 

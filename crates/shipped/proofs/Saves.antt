@@ -89,7 +89,7 @@ request-any image s m e (request.looks words) =
 request-any image s m e (request.mounts wall) = refl
 
 -- of the cartridge's own they are the next one's own
-own-after : (image : List ℕ) (m : Machine) (q : Request) → stateAfter image (encodeOf (m .cart)) m q ≡ encodeOf (serveOf image m q .left .cart)
+pub own-after : (image : List ℕ) (m : Machine) (q : Request) → stateAfter image (encodeOf (m .cart)) m q ≡ encodeOf (serveOf image m q .left .cart)
 own-after image m (request.bus a) = own image m a
 own-after image m (request.asks size) = refl
 own-after image m (request.saves room wall size) = refl

@@ -4,6 +4,7 @@ pub mod Ships
 pub mod Agrees
 pub mod Moves
 pub mod Requests
+pub mod Held
 pub mod Through
 pub mod Made
 pub mod Mounted
