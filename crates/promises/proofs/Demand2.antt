@@ -48,7 +48,11 @@ use Rattle.mount.specs.declared.Mounted.the-variants as mounted
 use Rattle.bus.specs.Bus.{areaAfter}
 use Rattle.bus.specs.Run.{Access, Answer, Machine, stepOf, runOf, Ready}
 use Rattle.bus.specs.Run as run
-use Rattle.player.specs.Header.{factsAfter}
+use Rattle.states.specs.Layout.{encodeOf}
+use Rattle.states.specs.Reading.{decodeOf}
+use Rattle.states.specs.declared.Decoded.the-variants as decoded
+use Rattle.player.specs.Header.{factsOf, factsAfter}
+use Rattle.player.proofs.imf_header.Reads as imf-header
 use Rattle.player.proofs.imf_mount.Reads as imf-mount
 use Rattle.player.proofs.imf_windows.Reads as imf-windows
 use Rattle.runs.specs.Padded.{padded}
@@ -89,17 +93,21 @@ use Rattle.title_part.specs.Part.{TitlePart}
 use Rattle.title_part.specs.Answered.{AnswersTitle}
 use Rattle.title_part.proofs.Title as title
 use Rattle.shipped.specs.Along.{Out, Outs, outs}
-use Rattle.shipped.specs.Sequence.{Kept}
+use Rattle.shipped.specs.Sequence.{Kept, kept}
 use Rattle.shipped.specs.Ships.{keptOf}
 use Rattle.shipped.specs.Requests.{Request, Reply, servesOf}
 use Rattle.shipped.specs.Requests as requests
-use Rattle.shipped.specs.Through.{Watched, watchedOf}
-use Rattle.shipped.specs.Agrees.{ShippedAgrees}
+use Rattle.shipped.specs.Held.{lentOf, onLents, Stands, Own}
+use Rattle.shipped.specs.Through.{Watched, watched, watchedOf, Watches}
+use Rattle.shipped.specs.Agrees.{VerdictAgrees, ShippedAgrees}
 use Rattle.shipped.specs.Made.{Call, AllMade, MadeRequest, AllRequested, AllMadeThrough, AllMadeAny}
 use Rattle.shipped.specs.Mounted.{MountsBy, keptBy, mountedBy, gameBy, watchedBy}
 use Rattle.shipped.proofs.Mounted as mounting
 use Rattle.shipped.proofs.MadeSaves as shipped
+use Rattle.shipped.proofs.AnyBytes as any-bytes
+use Rattle.shipped.proofs.MadeThrough as through
 use Rattle.shipped.proofs.AllCalls as windows
+use Rattle.shipped.proofs.Verdict as verdict
 use Rattle.shipped.proofs.Demand2 as ships
 use Rattle.promises.specs.PublicCalls.{factsIn}
 
@@ -343,21 +351,51 @@ pub mounted-ships : (c : Call imf-mount.Learnt) → c .answer ≡ 0 → c .passe
 mounted-ships = mounting.mount-made
 
 -- and any list of exported calls follows, each lent what the one before left, and each answering and leaving what its contract says: reads,
--- writes, advances, saves out and in. They answer and leave what the calls on the mounted cartridge do, refused ones among them.
+-- writes, advances, saves out and in, windows, and the image mounted anew. They answer and leave what the calls on the mounted cartridge do,
+-- refused ones among them.
 pub calls-ship : (c : Call imf-mount.Learnt) (x : MountsBy c) (qs : List Request) → requests.Octets qs
     → {got : Outs Reply Kept} → AllRequested (now (c .passed .1 .0)) (keptBy c) qs got
     → let served = servesOf (now (c .passed .1 .0)) (mountedBy c x) qs in got ≡ outs (served .answers) (keptOf (served .left))
 calls-ship = shipped.made-requests-ship
 
--- So it is with accesses through windows, from an `imf_windows` on what the mounting left: the state is asked where they say so, and the
--- windows anew after a write below 0x8000 and after a save that was read.
-pub calls-ship-through-windows : (c : Call imf-mount.Learnt) (x : MountsBy c) (d : Call imf-windows.Learnt)
-    → now (d .passed .0) ≡ keptBy c .state → (qs : List Request) → requests.Octets qs
-    → {got : Outs Reply Watched} → AllMadeAny (now (c .passed .1 .0)) (watchedBy c d) qs got
-    → let served = servesOf (now (c .passed .1 .0)) (mountedBy c x) qs in got ≡ outs (served .answers) (watchedOf (served .left))
+-- On any bytes at all: those of a fit cartridge answer as it does, and what is left is read as what it leaves, and is what the library writes
+-- of it where the first bytes were; all others are refused with 13, and stay, until an image is mounted.
+pub calls-ship-on-any-bytes : (image : List ℕ) (k : Kept) → bytes.Octets (k .state) → (qs : List Request) → requests.Octets qs
+    → {got : Outs Reply Kept} → AllRequested image k qs got
+    → let served = onLents image (lentOf k) qs in (got .answers ≡ served .answers) × Stands (Own (k .state)) (served .left) (got .left)
+calls-ship-on-any-bytes = any-bytes.any-bytes-ship
+
+-- So it is with accesses through windows, beside those without them, by a player that keeps a cartridge with its windows: the state is asked where
+-- they say so, and the windows anew after an accepted write below 0x8000, a save that was read and an image that was mounted, or whenever the
+-- player likes.
+pub calls-ship-through-windows : (image : List ℕ) (m : Machine) (k : Watched) → Watches image m k → (qs : List Request) → requests.Octets qs
+    → {got : Outs Reply Watched} → AllMadeAny image k qs got
+    → let served = servesOf image m qs in got ≡ outs (served .answers) (watchedOf (served .left))
 calls-ship-through-windows = windows.made-all-ship
 
--- 11. And demand 2 of them, as in 6: their numbers are those of answers, and their bytes those of a cartridge, that agree with the Rust,
+-- Such a player is one after an `imf_mount` that answered 0 and an `imf_windows` on what it left,
+pub mounted-watches : (c : Call imf-mount.Learnt) (x : MountsBy c) (d : Call imf-windows.Learnt) → now (d .passed .0) ≡ keptBy c .state
+    → Watches (now (c .passed .1 .0)) (mountedBy c x) (watchedBy c d)
+mounted-watches = through.watched-mounted
+
+-- and one that kept the bytes of a state as the library wrote them, with an image and an area of its lengths.
+pub resumed-watches : (image s ram : List ℕ) (c : Cartridge) → bytes.Octets s → decodeOf s ≡ decoded.To c → encodeOf c ≡ s
+    → Ready image (record { cart = c; area = ram }) → (d : Call imf-windows.Learnt) → now (d .passed .0) ≡ s
+    → Watches image (record { cart = c; area = ram }) (watched (kept s ram) (now (d .left .1 .0)))
+resumed-watches = through.watched-again
+
+-- 11. And demand 2 of them. "Header verdict", as in 5: `imf_header` answers 0 with the facts that the Rust takes the image with, and else the
+-- number of its error,
+pub shipped-header-agrees : (c : Call imf-header.Learnt) (wall : ℕ) → ImageInDomain (now (c .passed .0))
+    → VerdictAgrees (now (c .passed .0)) wall (c .answer) (λ d. (c .answer ≡ 0) × (now (c .left .1 .0) ≡ factsOf d))
+shipped-header-agrees = verdict.header-agrees
+
+-- and so does `imf_mount`, but for 12, the number of the RAM area that it is lent.
+pub shipped-mount-agrees : (c : Call imf-mount.Learnt) (wall : ℕ) → ImageInDomain (now (c .passed .1 .0))
+    → VerdictAgrees (now (c .passed .1 .0)) wall (c .answer) (λ d. (c .answer ≡ 0) ⊎ (c .answer ≡ 12))
+shipped-mount-agrees = verdict.mount-agrees
+
+-- "mapped byte and changed RAM", as in 6: their numbers are those of answers, and their bytes those of a cartridge, that agree with the Rust,
 pub shipped-calls-agree : (c : Call imf-mount.Learnt) (x : MountsBy c) (octets : bytes.Octets (now (c .passed .1 .0)))
     → (accesses : List Access) → calls.Octets accesses → Unseen (gameBy c x octets) none accesses
     → {got : Outs ℕ Kept} → AllMade (now (c .passed .1 .0)) (keptBy c) accesses got
@@ -372,7 +410,7 @@ pub shipped-windows-agree : (c : Call imf-mount.Learnt) (x : MountsBy c) (octets
     → ShippedAgrees (gameBy c x octets) none accesses (outs (got .answers) (got .left .kept))
 shipped-windows-agree = ships.made-through-agrees
 
--- and after an `imf_save_in` that answered 0.
+-- and after an `imf_save_in` that answered 0, at the wall time of the mounting, with what 6 asks of a block that is cut short.
 pub shipped-saved-calls-agree : (c : Call imf-mount.Learnt) (x : MountsBy c) (octets : bytes.Octets (now (c .passed .1 .0)))
     (save : List ℕ) (clock : ℕ) → bytes.Octets save
     → {l : Out Reply Kept} → MadeRequest (now (c .passed .1 .0)) (keptBy c) (requests.loads save (c .passed .1 .1 .1 .0) clock) l

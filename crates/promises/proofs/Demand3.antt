@@ -7,6 +7,7 @@ use mathlib.Core.Logic.{_↔_}
 use mathlib.Core.Path.{_≡_, refl, sym, ap, _∙_, subst}
 use Prim.Native.Nat.{ℕ, _+_, _/_, _%_, _<_, _≤_}
 use mathlib.Core.List.{List}
+use denote.Ref.{now}
 use lib.ListN.{getD, replicate}
 use Rattle.clock_registers.specs.Fit.{fitRegisters}
 use Rattle.clock.specs.Fit.{fitClock}
@@ -40,9 +41,11 @@ use Rattle.states.specs.Layout.{encodeOf}
 use Rattle.states.specs.Reading.{decodeOf}
 use Rattle.states.specs.declared.Decoded.the-variants as decoded
 use Rattle.flat_write.specs.Calls.{stateAdvanced}
-use Rattle.shipped.specs.Moves.{movedOf, thenMoved, singleMoves, SameMoved, onesLeft}
-use Rattle.shipped.specs.Along.{outs}
-use Rattle.shipped.specs.Sequence.{kept, callsOf}
+use Rattle.player.proofs.imf_advance.Reads as imf-advance
+use Rattle.shipped.specs.Moves.{movedBy, movedOf, thenMoved, singleMoves, SameMoved, onesLeft}
+use Rattle.shipped.specs.Along.{Outs, outs}
+use Rattle.shipped.specs.Sequence.{Kept, kept}
+use Rattle.shipped.specs.Made.{Call, AllMade}
 use Rattle.shipped.proofs.Demand3 as shipped
 use Rattle.bus.specs.Run as run
 use Rattle.player.specs.Bus as exported
@@ -213,7 +216,11 @@ cartridge-soon-proper c d k j s t h long e i =
     let q = laws.timed-clock c k (secondsOf s) t j d x i in
     soon-proper k j s (timed-fit c k t) h long (x .taken ∙ ap To q)
 
--- 7. As it ships: `imf_advance` on any bytes, the number that it answers and the bytes that it leaves. By a + b is by a and then by b,
+-- 7. As it ships: the number that an `imf_advance` answers on any bytes, and the bytes that it leaves, are these of the definitions:
+pub shipped-advance-is : (c : Call imf-advance.Learnt) → movedBy c ≡ movedOf (now (c .passed .0)) (c .passed .1 .0)
+shipped-advance-is = shipped.made-moved
+
+-- by a + b is by a and then by b,
 pub shipped-advances-join : (s : List ℕ) → Octets s → (a b : ℕ) → SameMoved (movedOf s (a + b)) (thenMoved (movedOf s a) b)
 shipped-advances-join = shipped.advances-join
 
@@ -223,7 +230,7 @@ shipped-advance-is-singles = shipped.advance-is-singles
 
 -- as n calls by 1 that were made one after the other, where the one by n answers 0,
 pub shipped-advance-is-ones : (n : ℕ) (image s ram : List ℕ) → Octets s → exported.advanceOf s n ≡ 0
-    → callsOf image (kept s ram) (replicate n (run.clocks 1)) ≡ outs (replicate n 0) (kept (onesLeft n s) ram)
+    → {got : Outs ℕ Kept} → AllMade image (kept s ram) (replicate n (run.clocks 1)) got → got ≡ outs (replicate n 0) (kept (onesLeft n s) ram)
 shipped-advance-is-ones = shipped.advance-is-ones
 
 -- a halted clock stays as it is,

@@ -2,8 +2,6 @@
 use mathlib.Core.List.{List, [], _∷_}
 use mathlib.Core.Path.{_≡_, refl, sym, ap, _∙_, subst}
 use Prim.Native.Nat.{ℕ}
-use denote.Ref.{now}
-use lib.ListN.{length}
 use Rattle.mount.specs.Mount as mount
 use Rattle.mount.specs.declared.Mounted.{Mounted}
 use Rattle.mount.specs.declared.Mounted.the-variants as mounted
@@ -14,23 +12,20 @@ use Rattle.windows.specs.Windows.{windowsOf}
 use Rattle.player.specs.Bus.{mountNumber}
 use Rattle.player.specs.Save.{loadedNumber}
 use Rattle.player.specs.Windows.{numbersOf}
-use Rattle.player.proofs.imf_mount.Reads as imf-mount
-use Rattle.player.proofs.imf_windows.Reads as imf-windows
 use Rattle.runs.specs.Game.{answerTo, cartBy}
 use Rattle.runs.proofs.RunLaws.{run-ready, mount-ready}
 use Rattle.runs.proofs.SaveLaws.{load-ready}
 use Rattle.shipped.specs.Ships.{Sound}
 use Rattle.shipped.specs.Requests.{Request, serveOf, servesOf, cartMounted, Octet, Octets, Reply, bare}
 use Rattle.shipped.specs.Requests as request
-use Rattle.shipped.specs.Through.{Watched, watchedOf, passedOf}
+use Rattle.shipped.specs.Through.{Watched, watchedOf, Watches, passedOf}
 use Rattle.shipped.specs.Along.{Out, Outs, out, outs}
 use Rattle.shipped.specs.Sequence.{Kept}
-use Rattle.shipped.specs.Made.{Call, Stays, MadeAny, AllMadeAny, access, other}
-use Rattle.shipped.specs.Mounted.{watchedBy, keptBy, MountsBy, mountedBy}
+use Rattle.shipped.specs.Made.{Stays, MadeAny, AllMadeAny, access, other}
 use Rattle.shipped.proofs.Saves.{request-ships, serve-sound}
 use Rattle.shipped.proofs.MadeSaves.{other-is}
 use Rattle.shipped.proofs.Through.{renewed-are, access-stays, through-step}
-use Rattle.shipped.proofs.MadeThrough.{Watches, watched-mounted, taken-apart, both-outs}
+use Rattle.shipped.proofs.MadeThrough.{taken-apart, both-outs}
 use Rattle.shipped.proofs.AlongLaws.{along-follows}
 
 -- ---- the image and the area stay those of the mounting
@@ -87,23 +82,16 @@ module _ (image : List ℕ) (m : Machine) (h : Sound m) (r : Ready image m) wher
 
 -- ---- any list of them
 
--- After an `imf_mount` that answered 0, and an `imf_windows` on what it left, any list of exported calls that were made, accesses
--- through windows or not and saves among them, answers and leaves what the calls on the mounted cartridge do.
-pub made-all-ship : (c : Call imf-mount.Learnt) (x : MountsBy c) (d : Call imf-windows.Learnt) → now (d .passed .0) ≡ keptBy c .state
-    → (qs : List Request) → Octets qs
-    → {got : Outs Reply Watched} → AllMadeAny (now (c .passed .1 .0)) (watchedBy c d) qs got
-    → let served = servesOf (now (c .passed .1 .0)) (mountedBy c x) qs in got ≡ outs (served .answers) (watchedOf (served .left))
-made-all-ship c x d e qs o {got} made =
-    let image = now (c .passed .1 .0) in
+-- Any list of exported calls that were made, accesses through windows or not and saves among them, answers and leaves what the calls on
+-- that cartridge do.
+pub made-all-ship : (image : List ℕ) (m : Machine) (k : Watched) → Watches image m k → (qs : List Request) → Octets qs
+    → {got : Outs Reply Watched} → AllMadeAny image k qs got
+    → let served = servesOf image m qs in got ≡ outs (served .answers) (watchedOf (served .left))
+made-all-ship image m k h qs o {got} made =
     let all =
-    along-follows (MadeAny image) (serveOf image) (Watches image) Octet Octets (λ q rest os. os) step
-    (mountedBy c x) (watchedBy c d) (watched-mounted c x d e) qs o got made in
+        along-follows (MadeAny image) (serveOf image) (Watches image) Octet Octets (λ q rest os. os)
+        (λ n j w q b y x. taken-apart
+        (any-ships image n (w .sound) (w .ready) b (subst (λ (i : Watched). MadeAny image i q y) (w .is) x))
+        (serve-sound image n (w .sound) q b) (serve-ready image n (w .ready) q b))
+        m k h qs o got made in
     both-outs (all .0) (all .1 .is)
-  where
-    step : (m : Machine) (k : Watched) → Watches (now (c .passed .1 .0)) m k → (q : Request) → Octet q → (y : Out Reply Watched)
-        → MadeAny (now (c .passed .1 .0)) k q y
-        → (y .answer ≡ serveOf (now (c .passed .1 .0)) m q .answer) × Watches (now (c .passed .1 .0)) (serveOf (now (c .passed .1 .0)) m q .left) (y .left)
-    step m k w q b y made =
-        let image = now (c .passed .1 .0) in
-        taken-apart (any-ships image m (w .sound) (w .ready) b (subst (λ (j : Watched). MadeAny image j q y) (w .is) made))
-        (serve-sound image m (w .sound) q b) (serve-ready image m (w .ready) q b)

@@ -35,7 +35,7 @@ use Rattle.shipped.proofs.Shipped.{calls-ship, mount-sound, run-sound}
 use Rattle.shipped.proofs.Saves.{request-ships, serve-sound}
 use Rattle.shipped.proofs.Mounted.{mount-leaves}
 use Rattle.shipped.proofs.MadeSaves.{request-is}
-use Rattle.shipped.proofs.MadeThrough.{made-through-ships}
+use Rattle.shipped.proofs.MadeThrough.{watched-mounted, made-through-ships}
 use Rattle.shipped.proofs.NumberLaws.{save-some}
 
 -- ---- calls on the bytes of a game's beginning
@@ -116,6 +116,6 @@ made-through-agrees c x octets d e accesses o u made =
     record {
       answers = r .answers;
       left = r .left;
-      is = ap (λ (y : Outs ℕ Watched). outs (y .answers) (y .left .kept)) (made-through-ships c x d e accesses o made);
+      is = ap (λ (y : Outs ℕ Watched). outs (y .answers) (y .left .kept)) (made-through-ships (g .image) (mountedMachine g) (watchedBy c d) (watched-mounted c x d e) accesses o made);
       agrees = game-agrees g none tt tt accesses o u (run-called (g .image) (mountedMachine g) accesses);
     }

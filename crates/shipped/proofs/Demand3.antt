@@ -6,6 +6,7 @@ use mathlib.Core.Path.{_≡_, refl, sym, ap, _∙_, subst}
 use Prim.Native.Nat.{ℕ, zero, suc, _+_, _<_, _≤_, _^_}
 use native.Mathlib.Numerals.{add-one}
 use native.Mathlib.Omega.{arith}
+use denote.Ref.{now}
 use lib.Dec.{eqb}
 use lib.ListN.{replicate}
 use borrow.Author.Tests.{eqb-true, eqb-false}
@@ -40,19 +41,30 @@ use Rattle.states.specs.declared.Decoded.the-variants.{To, NoState}
 use Rattle.states.proofs.Back.{encoded-octets, decode-encode-same, fit-widths}
 use Rattle.flat_write.specs.Calls.{timed, advanceState, stateAdvanced}
 use Rattle.player.specs.Bus.{advanceNumber, advanceOf}
+use Rattle.player.proofs.imf_advance.Reads as imf-advance
 use Rattle.runs.specs.Time.{Proper, SameTime, secondsOf, period, periodOn}
 use Rattle.runs.specs.Advances.{Timed, withClockOf, fromClock, thenAdvance}
 use Rattle.runs.proofs.MapperLaws.{clock-fits}
 use Rattle.runs.proofs.BusLaws as laws
 use Rattle.runs.proofs.AdvanceLaws.{clock-advance, timed-taken, timed-clock, advances-joined}
 use Rattle.runs.proofs.TimeLaws.{taken-seconds, comes-back, whole-seconds, no-sooner}
-use Rattle.shipped.specs.Sequence.{callsOf, Kept}
-use Rattle.shipped.specs.Moves.{Moved, movedOf, thenMoved, singleMoves, SameMoved, onesLeft}
-use Rattle.shipped.specs.Along.{Outs}
+use Rattle.shipped.specs.Sequence.{callsOf, Kept, kept}
+use Rattle.shipped.specs.Made.{Call, AllMade}
+use Rattle.shipped.specs.Moves.{Moved, movedBy, movedOf, thenMoved, singleMoves, SameMoved, onesLeft}
+use Rattle.shipped.specs.Along.{Outs, outs}
 use Rattle.shipped.proofs.InTimeLaws as timing
+use Rattle.shipped.proofs.Made.{all-made-are}
 use Rattle.shipped.proofs.PlainLaws.{timed-stays, untimed-still, advance-plain}
 use Rattle.shipped.proofs.StepLaws.{decoded}
 use Rattle.shipped.proofs.Shipped.{decoded-in-time}
+
+both : {x y : ℕ} {s t : List ℕ} → x ≡ y → s ≡ t → _≡_ {A = Moved} (record { number = x; state = s }) (record { number = y; state = t })
+both p q = cc
+
+-- ---- what was made is what the definitions say
+
+pub made-moved : (c : Call imf-advance.Learnt) → movedBy c ≡ movedOf (now (c .passed .0)) (c .passed .1 .0)
+made-moved c = both (c .known .0) (c .known .1)
 
 -- ---- an advance of bytes is the cartridge's
 
@@ -81,10 +93,7 @@ moved-encoded : (c : Cartridge) (n : ℕ) → fitCart c ≡ true → InTime (c .
 moved-encoded c n f t =
     let same = advance-plain c n in
     moved-cart (encodeOf c) (plain c) n (decoded (record { cart = c; area = [] }) (record { fit = f; timed = t }))
-    ∙ two (same .number) (same .state (encodeOf c))
-  where
-    two : {x y : ℕ} {s t : List ℕ} → x ≡ y → s ≡ t → _≡_ {A = Moved} (record { number = x; state = s }) (record { number = y; state = t })
-    two p q = cc
+    ∙ both (same .number) (same .state (encodeOf c))
 
 record-with : {n : ℕ} {s t : List ℕ} → s ≡ t → _≡_ {A = Moved} (record { number = n; state = s }) (record { number = n; state = t })
 record-with {n} e = ap (λ (s : List ℕ). record { number = n; state = s }) e
@@ -196,15 +205,15 @@ parts s n o z = go (eqb (advanceOf s 1) 0) refl
     go false e = absurd (eqb-false (advanceOf s 1) 0 e (sym (by false e .number) ∙ z))
 
 -- Where `imf_advance` by n answers 0, so does each of n calls by 1, and they leave the same bytes.
-pub advance-is-ones : (n : ℕ) (image s ram : List ℕ) → Octets s → advanceOf s n ≡ 0
+ones-of : (n : ℕ) (image s ram : List ℕ) → Octets s → advanceOf s n ≡ 0
     → callsOf image (record { state = s; area = ram }) (replicate n (run.clocks 1))
     ≡ record { answers = replicate n 0; left = record { state = onesLeft n s; area = ram } }
-advance-is-ones zero image s ram o z = refl
-advance-is-ones (suc n) image s ram o z =
+ones-of zero image s ram o z = refl
+ones-of (suc n) image s ram o z =
     let p = parts s n o z in
     let t = stateAdvanced s 1 in
     ap (λ (r : Outs ℕ Kept). record { answers = advanceOf s 1 ∷ r .answers; left = r .left })
-    (advance-is-ones n image t ram (advanced-octets s 1 o) (p .rest))
+    (ones-of n image t ram (advanced-octets s 1 o) (p .rest))
     ∙ two (p .one) (left n (p .same))
   where
     two : {x y : ℕ} {t u : List ℕ} → x ≡ y → t ≡ u
@@ -215,6 +224,10 @@ advance-is-ones (suc n) image s ram o z =
     left : (n : ℕ) → stateAdvanced (stateAdvanced s 1) n ≡ stateAdvanced s (suc n) → onesLeft n (stateAdvanced s 1) ≡ stateAdvanced s (suc n)
     left zero e = refl
     left (suc n) e = e
+
+pub advance-is-ones : (n : ℕ) (image s ram : List ℕ) → Octets s → advanceOf s n ≡ 0
+    → {got : Outs ℕ Kept} → AllMade image (kept s ram) (replicate n (run.clocks 1)) got → got ≡ outs (replicate n 0) (kept (onesLeft n s) ram)
+advance-is-ones n image s ram o z made = all-made-are made ∙ ones-of n image s ram o z
 
 -- ---- "44,236,800 seconds is the period, no less"
 

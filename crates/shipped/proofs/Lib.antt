@@ -16,5 +16,6 @@ pub mod AnyBytes
 pub mod Through
 pub mod MadeThrough
 pub mod AllCalls
+pub mod Verdict
 pub mod Demand2
 pub mod Demand3

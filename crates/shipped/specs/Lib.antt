@@ -2,9 +2,9 @@ pub mod Along
 pub mod Sequence
 pub mod Ships
 pub mod Agrees
-pub mod Moves
 pub mod Requests
 pub mod Held
 pub mod Through
 pub mod Made
+pub mod Moves
 pub mod Mounted

@@ -2,16 +2,24 @@
 use mathlib.Core.List.{List}
 use mathlib.Core.Path.{_≡_}
 use Prim.Native.Nat.{ℕ, zero, suc}
+use denote.Ref.{now}
 use lib.Dec.{eqb}
 use Rattle.facts.specs.Choice.{pick}
 use Rattle.flat_write.specs.Calls.{stateAdvanced}
 use Rattle.player.specs.Bus.{advanceOf}
+use Rattle.player.proofs.imf_advance.Reads as imf-advance
+use Rattle.shipped.specs.Made.{Call}
 
 -- the number of an advance, and the bytes that it leaves
 pub record Moved : Type 0 where
   pub number : ℕ
   pub state : List ℕ
 
+-- of one that was made,
+abbrev pub movedBy : Call imf-advance.Learnt → Moved
+movedBy c = record { number = c .answer; state = now (c .left .0) }
+
+-- and by the definitions that its contract cites
 abbrev pub movedOf : List ℕ → ℕ → Moved
 movedOf s n = record { number = advanceOf s n; state = stateAdvanced s n }
 
