@@ -51,21 +51,7 @@ use Rattle.bus.specs.Run as run
 use Rattle.player.specs.Bus as exported
 use Rattle.runs.proofs.MapperLaws.{clock-fits}
 use Rattle.runs.proofs.AdvanceLaws as laws
-use Rattle.runs.proofs.TimeLaws.{
-  joined,
-  by-singles,
-  late-exactly,
-  taken-exactly,
-  no-sooner,
-  comes-back,
-  seconds-proper,
-  whole-seconds,
-  taken-seconds,
-  ticks-carry,
-  written-carry,
-  written-reading,
-  frozen-reading,
-}
+use Rattle.runs.proofs.TimeLaws.{joined, by-singles, late-exactly, taken-exactly, no-sooner, comes-back, seconds-proper, whole-seconds, taken-seconds, ticks-carry, written-carry, written-reading, frozen-reading}
 
 -- 1. Advancing by n gives exactly what n single ticks give,
 pub advance-is-ticks : (c : Clock) (n : ℕ) → fitClock c ≡ true

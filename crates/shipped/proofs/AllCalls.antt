@@ -89,9 +89,9 @@ pub made-all-ship : (image : List ℕ) (m : Machine) (k : Watched) → Watches i
     → let served = servesOf image m qs in got ≡ outs (served .answers) (watchedOf (served .left))
 made-all-ship image m k h qs o {got} made =
     let all =
-        along-follows (MadeAny image) (serveOf image) (Watches image) Octet Octets (λ q rest os. os)
-        (λ n j w q b y x. taken-apart
-        (any-ships image n (w .sound) (w .ready) b (subst (λ (i : Watched). MadeAny image i q y) (w .is) x))
-        (serve-sound image n (w .sound) q b) (serve-ready image n (w .ready) q b))
-        m k h qs o got made in
+    along-follows (MadeAny image) (serveOf image) (Watches image) Octet Octets (λ q rest os. os)
+    (λ n j w q b y x. taken-apart
+    (any-ships image n (w .sound) (w .ready) b (subst (λ (i : Watched). MadeAny image i q y) (w .is) x))
+    (serve-sound image n (w .sound) q b) (serve-ready image n (w .ready) q b))
+    m k h qs o got made in
     both-outs (all .0) (all .1 .is)

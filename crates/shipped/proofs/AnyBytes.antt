@@ -1,13 +1,11 @@
 -- The exported calls on any bytes at all: those of a fit cartridge, in the library's own form or not, and all others. Assumes nothing.
-use mathlib.Core.Bool.{Bool, true, false, not}
-use mathlib.Core.List.{List, [], _∷_}
+use mathlib.Core.Bool.{Bool, false, not}
+use mathlib.Core.List.{List}
 use mathlib.Core.Path.{_≡_, refl, sym, ap, _∙_, subst}
 use Prim.Native.Nat.{ℕ}
 use lib.ListN.{length}
-use Rattle.facts.specs.Choice.{pick}
 use Rattle.facts.proofs.ChoiceLaws.{pick-cases}
 use Rattle.bytes_le.specs.Little as bytes
-use Rattle.clock.specs.declared.AdvanceRefusal.the-variants as late
 use Rattle.mapper.specs.Mappers as mapper
 use Rattle.mapper.specs.declared.Mapper.{Mapper}
 use Rattle.cartridge.specs.Fit.{fitCart}
@@ -32,16 +30,14 @@ use Rattle.bus.specs.Advance as advance
 use Rattle.bus.specs.Run.{Machine}
 use Rattle.bus.specs.Run as run
 use Rattle.bus.specs.declared.ReadAnswer.the-variants as read
-use Rattle.bus.specs.declared.WriteAnswer.the-variants as write
 use Rattle.bus.proofs.Laws.{unfit-answer}
-use Rattle.states.specs.Layout.{encodeOf}
 use Rattle.states.specs.Reading.{decodeOf, mapperAt, cartAt}
 use Rattle.states.specs.Plain.{plainMapper, plain}
 use Rattle.states.specs.OnState.{onState}
 use Rattle.states.specs.declared.Decoded.{Decoded}
 use Rattle.states.specs.declared.Decoded.the-variants.{To, NoState}
 use Rattle.states.proofs.Laws.{every-kind}
-use Rattle.windows.specs.Windows.{askOf, windowsOf}
+use Rattle.windows.specs.Windows.{askOf}
 use Rattle.windows.specs.declared.Asked.the-variants as asked
 use Rattle.flat_write.specs.Calls.{writeState, stateWritten, areaWritten, advanceState, stateAdvanced}
 use Rattle.player.specs.Bus.{mountState, mountOf, stateMounted, readNumber, readOf, writeNumber, writeOf, advanceNumber, advanceOf}
@@ -50,9 +46,9 @@ use Rattle.player.specs.Windows.{askedNumber, askedWindows, windowsNumber, wind
 use Rattle.shipped.specs.Along.{Out, Outs, out}
 use Rattle.shipped.specs.Sequence.{Kept, kept}
 use Rattle.shipped.specs.Ships.{Sound}
-use Rattle.shipped.specs.Requests.{Request, Reply, reply, requestOf, serveOf, Octet, Octets}
+use Rattle.shipped.specs.Requests.{Request, Reply, requestOf, Octet, Octets}
 use Rattle.shipped.specs.Requests as request
-use Rattle.shipped.specs.Held.{Held, cart, others, heldBy, Lent, lent, lentOf, onOthers, heldMounted, onLent, onLents, StandsFor, Stands, Own}
+use Rattle.shipped.specs.Held.{Held, cart, others, heldBy, Lent, lent, lentOf, onOthers, heldMounted, onLent, onLents, Stands, Own}
 use Rattle.shipped.specs.Made.{MadeRequest, AllRequested}
 use Rattle.shipped.proofs.StepLaws.{decoded}
 use Rattle.shipped.proofs.WidthLaws.{decoded-has}
@@ -216,25 +212,29 @@ held-step image (cart c) area k r q o x made =
     let s = k .state in
     let st = r .stands in
     let e =
-        request-is made ∙ ap (λ (l : List ℕ). requestOf image (kept s l) q) (st .area) ∙ request-any image s m (st .state .0) q in
-    let left = ap (λ (y : Out Reply Kept). y .left .state) e in
-    (ap (λ (y : Out Reply Kept). y .answer) e, record {
-      stands =
-          record {
-            state =
-                (ap decodeOf left ∙ request-read image s m (r .sound) (st .state .0) q o,
-                λ p. left ∙ ap (λ (t : List ℕ). stateAfter image t m q) (st .state .1 p) ∙ own-after image m q);
-            area = ap (λ (y : Out Reply Kept). y .left .area) e;
-          };
-      sound = serve-sound image m (r .sound) q o;
-    })
+    request-is made ∙ ap (λ (l : List ℕ). requestOf image (kept s l) q) (st .area) ∙ request-any image s m (st .state .0) q in
+    let left = ap (λ (y : Out Reply Kept). y .left .state) e in (
+      ap (λ (y : Out Reply Kept). y .answer) e,
+      record {
+        stands =
+            record {
+              state = (
+                ap decodeOf left ∙ request-read image s m (r .sound) (st .state .0) q o,
+                λ p. left ∙ ap (λ (t : List ℕ). stateAfter image t m q) (st .state .1 p) ∙ own-after image m q,
+              );
+              area = ap (λ (y : Out Reply Kept). y .left .area) e;
+            };
+        sound = serve-sound image m (r .sound) q o;
+      },
+    )
 held-step {own} image (others t) area k r q o x made =
     let st = r .stands in
     let e =
-        request-is made ∙ ap (λ (l : List ℕ). requestOf image (kept (k .state) l) q) (st .area)
-        ∙ ap (λ (s : List ℕ). requestOf image (kept s area) q) (st .state) ∙ other-any image t area (r .sound) q in
-    (ap (λ (y : Out Reply Kept). y .answer) e,
-    subst (λ (y : Out Reply Kept). Holds own (onOthers image t area q .left) (y .left)) (sym e) (other-holds image t area (r .sound) q o))
+    request-is made ∙ ap (λ (l : List ℕ). requestOf image (kept (k .state) l) q) (st .area)
+    ∙ ap (λ (s : List ℕ). requestOf image (kept s area) q) (st .state) ∙ other-any image t area (r .sound) q in (
+      ap (λ (y : Out Reply Kept). y .answer) e,
+      subst (λ (y : Out Reply Kept). Holds own (onOthers image t area q .left) (y .left)) (sym e) (other-holds image t area (r .sound) q o),
+    )
 
 -- Any list of calls that were made, on any bytes: the answers are those of the calls on what is held, and what they leave stands for what
 -- these leave.
@@ -243,6 +243,6 @@ pub any-bytes-ship : (image : List ℕ) (k : Kept) → bytes.Octets (k .state) �
     → let served = onLents image (lentOf k) qs in (got .answers ≡ served .answers) × Stands (Own (k .state)) (served .left) (got .left)
 any-bytes-ship image k octets qs o {got} made =
     let all =
-        along-follows (MadeRequest image) (onLent image) (Holds (Own (k .state))) Octet Octets (λ q rest os. os)
-        (λ l j r q b x m. held-step image (l .held) (l .area) j r q b x m) (lentOf k) k (begins k octets) qs o got made in
+    along-follows (MadeRequest image) (onLent image) (Holds (Own (k .state))) Octet Octets (λ q rest os. os)
+    (λ l j r q b x m. held-step image (l .held) (l .area) j r q b x m) (lentOf k) k (begins k octets) qs o got made in
     (all .0, all .1 .stands)

@@ -1,6 +1,5 @@
 -- Demand 2 of what ships: an image that `imf_mount` takes, a save that `imf_save_in` takes or none, and any list of reads, writes and
 -- advances through the exported calls. Assumes nothing.
-use lib.ListN.{length}
 use mathlib.Core.List.{List}
 use mathlib.Core.Option.{Option, none, some}
 use mathlib.Core.Path.{_≡_, sym, ap, _∙_, subst}
@@ -9,7 +8,6 @@ use native.Mathlib.Omega.{arith}
 use denote.Ref.{now}
 use Rattle.bytes_le.specs.Little as bytes
 use Rattle.cartridge.specs.Fit.{InTime}
-use Rattle.cartridge.specs.declared.Cartridge.{Cartridge}
 use Rattle.save_file.specs.declared.Loaded.{Loaded}
 use Rattle.bus.specs.Run.{Access, runOf, Answer, Machine}
 use Rattle.player.proofs.imf_windows.Reads as imf-windows
@@ -18,7 +16,6 @@ use Rattle.player.proofs.imf_mount.Reads as imf-mount
 use Rattle.runs.specs.Game.{Game, mountedMachine, answerTo, Accepted, Readable, begins}
 use Rattle.runs.specs.Calls as calls
 use Rattle.runs.proofs.RunLaws.{run-called, calls-run}
-use Rattle.runs.proofs.BusLaws.{mount-taken, mount-fit}
 use Rattle.original_saves.specs.Agrees.{Unseen, CutHarmless}
 use Rattle.original_saves.proofs.Games.{game-agrees}
 use Rattle.shipped.specs.Along.{Out, Outs, outs}

@@ -73,9 +73,9 @@ pub made-through-ships : (image : List ℕ) (m : Machine) (k : Watched) → Watc
     → let r = runOf image m accesses in got ≡ outs (numbersOf accesses (r .answers)) (watchedOf (r .left))
 made-through-ships image m k h accesses o {got} made =
     let all =
-        along-follows (MadeThrough image) (numbered image) (Watches image) Octet Octets (λ a as′ os. os)
-        (λ n j w a b y x. taken-apart
-        (through-step image n (w .sound) (w .ready) b (subst (λ (i : Watched). MadeThrough image i a y) (w .is) x))
-        (step-sound image n (w .sound) a b) (run-ready image n (a ∷ []) (w .ready) (b, tt)))
-        m k h accesses o got made in
+    along-follows (MadeThrough image) (numbered image) (Watches image) Octet Octets (λ a as′ os. os)
+    (λ n j w a b y x. taken-apart
+    (through-step image n (w .sound) (w .ready) b (subst (λ (i : Watched). MadeThrough image i a y) (w .is) x))
+    (step-sound image n (w .sound) a b) (run-ready image n (a ∷ []) (w .ready) (b, tt)))
+    m k h accesses o got made in
     both-outs (all .0) (all .1 .is) ∙ ap (λ (y : Outs ℕ Machine). outs (y .answers) (watchedOf (y .left))) (numbered-run image m accesses)

@@ -1,38 +1,26 @@
 -- What ships: the exported calls over a state's bytes are the run of the cartridge that the bytes stand for. Assumes nothing.
-use mathlib.Core.Bool.{true}
 use mathlib.Core.List.{List, [], _∷_}
 use mathlib.Core.Path.{_≡_, refl, sym, ap, _∙_, subst}
-use Prim.Native.Nat.{ℕ, suc, _<_, _^_}
+use Prim.Native.Nat.{ℕ, _<_, _^_}
 use native.Mathlib.Omega.{arith}
 use lib.ListN.{length}
 use Rattle.bytes_le.specs.Little as bytes
 use Rattle.bytes_le.proofs.FieldLaws.{field-lt}
 use Rattle.header.specs.declared.Facts.{Facts}
 use Rattle.mapper.specs.declared.Mapper.{Mapper}
-use Rattle.cartridge.specs.Fit.{fitCart, InTime}
+use Rattle.cartridge.specs.Fit.{InTime}
 use Rattle.cartridge.specs.declared.Cartridge.{Cartridge}
 use Rattle.mount.specs.Mount as mount
 use Rattle.mount.specs.declared.Mounted.{Mounted}
 use Rattle.mount.specs.declared.Mounted.the-variants as mounted
-use Rattle.bus.specs.Bus as bus
-use Rattle.bus.specs.Advance as advance
-use Rattle.bus.specs.Run.{Access, Answer, Machine, stepOf, runOf}
-use Rattle.bus.specs.Run as run
-use Rattle.bus.specs.declared.WriteAnswer.{WriteAnswer}
-use Rattle.bus.specs.declared.WriteAnswer.the-variants as write
-use Rattle.bus.specs.declared.Advanced.{Advanced}
-use Rattle.bus.specs.declared.Advanced.the-variants as advanced
-use Rattle.states.specs.Layout.{encodeOf}
+use Rattle.bus.specs.Run.{Access, Machine, stepOf, runOf}
 use Rattle.states.specs.Reading.{decodeOf, mapperAt}
-use Rattle.states.specs.OnState.{onState}
-use Rattle.states.specs.declared.Decoded.{Decoded}
-use Rattle.states.specs.declared.Decoded.the-variants.{To, NoState}
+use Rattle.states.specs.declared.Decoded.the-variants.{To}
 use Rattle.states.proofs.Laws.{every-kind}
-use Rattle.flat_write.specs.Calls.{writeState, stateWritten, areaWritten, advanceState, stateAdvanced}
-use Rattle.player.specs.Bus.{mountNumber, mountState, mountOf, stateMounted, writeNumber, writeOf, advanceNumber, advanceOf}
+use Rattle.player.specs.Bus.{mountNumber, mountState, mountOf, stateMounted}
 use Rattle.runs.specs.Calls.{Octets, Octet}
 use Rattle.runs.proofs.BusLaws as laws
-use Rattle.shipped.specs.Sequence.{Kept, callOf, callsOf, kept}
+use Rattle.shipped.specs.Sequence.{callOf, callsOf, kept}
 use Rattle.shipped.specs.Ships.{numberOf, keptOf, calledOf, Sound, numbered, numbersOf}
 use Rattle.shipped.specs.Along.{Outs, outs, before, along}
 use Rattle.shipped.specs.Mounted.{Mounts}

@@ -8,7 +8,7 @@ use Rattle.cartridge.specs.declared.Cartridge.{Cartridge}
 use Rattle.mount.specs.Mount as mount
 use Rattle.mount.specs.declared.Mounted.{Mounted}
 use Rattle.mount.specs.declared.Mounted.the-variants as mounted
-use Rattle.bus.specs.Run.{Access, refused}
+use Rattle.bus.specs.Run.{refused}
 use Rattle.states.specs.Layout.{encodeOf}
 use Rattle.states.specs.Plain.{plain}
 use Rattle.states.specs.Reading.{decodeOf}

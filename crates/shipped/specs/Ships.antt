@@ -2,7 +2,7 @@
 use mathlib.Core.Bool.{true}
 use mathlib.Core.List.{List, [], _∷_}
 use mathlib.Core.Path.{_≡_}
-use Prim.Native.Nat.{ℕ, _+_, _<_}
+use Prim.Native.Nat.{ℕ, _+_}
 use Rattle.cartridge.specs.Fit.{fitCart, InTime}
 use Rattle.bus.specs.Run.{Access, Answer, Machine, Ran, reads, writes, clocks, gave, took, refused, stepOf}
 use Rattle.states.specs.Layout.{encodeOf}
