@@ -107,8 +107,8 @@ pub data MadeThrough (image : List ℕ) (k : Watched) : Access → Out ℕ Watch
       → now (c .passed .1 .1 .0) ≡ k .kept .area → eqb (c .answer) ask ≡ true
       → {x : Out ℕ Kept} → Made image (k .kept) (reads (c .passed .1 .1 .1 .0)) x
       → MadeThrough image k (reads (c .passed .1 .1 .1 .0)) (passedOf x (k .windows))
-  put : (c : Call imf-window-write.Learnt) → now (c .passed .0) ≡ k .windows → now (c .passed .1 .0) ≡ k .kept .area
-      → eqb (c .answer) ask ≡ false
+  put : (c : Call imf-window-write.Learnt) → eqb (c .answer) ask ≡ false → now (c .passed .0) ≡ k .windows
+      → now (c .passed .1 .0) ≡ k .kept .area
       → MadeThrough image k (writes (c .passed .1 .1 .0) (c .passed .1 .1 .1 .0))
       (passedOf (out (c .answer) (kept (k .kept .state) (now (c .left .1 .0)))) (k .windows))
   written : (c : Call imf-window-write.Learnt) → now (c .passed .0) ≡ k .windows → now (c .passed .1 .0) ≡ k .kept .area

@@ -1,5 +1,5 @@
 // Where the three windows of a cartridge stand, as five numbers that a caller keeps. While they hold, reads and RAM writes need no
-// look at the state; only a write below 0x8000 or a save that is read makes others of them.
+// look at the state; a write below 0x8000 that is taken, a save that is read and a mounting may make others of them.
 ghost use mathlib.Core.Path.{_≡_};
 ghost use Prim.Native.Nat.{_+_, _%_, _<_, _≤_};
 ghost use lib.ListN.{getD, set};
