@@ -287,7 +287,7 @@ module _ (image : List ℕ) (m : Machine) (h : Sound m) (r : Ready image m) wher
   through-step o (seen c p q s f) =
       let addr = c .passed .1 .1 .1 .0 in
       direct-ships (run.reads addr) o (ap (λ (n : ℕ). out n (keptOf m)) (seen-is addr (read-known image (watchedOf m) c p q s) f)) (same tt)
-  through-step o (made.asked c p q s f made) = direct-ships (run.reads (c .passed .1 .1 .1 .0)) o (made-is made) (same tt)
+  through-step o (made.asked c p q s made) = direct-ships (run.reads (c .passed .1 .1 .1 .0)) o (made-is made) (same tt)
   through-step o (made.put c f p q) = go (puts addr byte)
     where
       addr : ℕ

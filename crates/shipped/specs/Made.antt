@@ -97,14 +97,14 @@ pub data Renewed (stays : Type 0) (state windows : List ℕ) : List ℕ → Type
   same : stays → Renewed stays state windows windows
   anew : (d : Call imf-windows.Learnt) → now (d .passed .0) ≡ state → Renewed stays state windows (now (d .left .1 .0))
 
--- a read through the windows, and one of the state where they say so; a write through them, and one of the state where they say so; and
--- any access without them
+-- a read through the windows, and one of the state behind it, as where they say so; a write through them, and one of the state where they
+-- say so; and any access without them
 pub data MadeThrough (image : List ℕ) (k : Watched) : Access → Out ℕ Watched → Type 0 where
   seen : (c : Call imf-window-read.Learnt) → now (c .passed .0) ≡ k .windows → now (c .passed .1 .0) ≡ image
       → now (c .passed .1 .1 .0) ≡ k .kept .area → eqb (c .answer) ask ≡ false
       → MadeThrough image k (reads (c .passed .1 .1 .1 .0)) (out (c .answer) k)
   asked : (c : Call imf-window-read.Learnt) → now (c .passed .0) ≡ k .windows → now (c .passed .1 .0) ≡ image
-      → now (c .passed .1 .1 .0) ≡ k .kept .area → eqb (c .answer) ask ≡ true
+      → now (c .passed .1 .1 .0) ≡ k .kept .area
       → {x : Out ℕ Kept} → Made image (k .kept) (reads (c .passed .1 .1 .1 .0)) x
       → MadeThrough image k (reads (c .passed .1 .1 .1 .0)) (passedOf x (k .windows))
   put : (c : Call imf-window-write.Learnt) → eqb (c .answer) ask ≡ false → now (c .passed .0) ≡ k .windows
