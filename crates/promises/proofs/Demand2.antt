@@ -101,7 +101,7 @@ use Rattle.shipped.specs.Held.{lentOf, onLents, Stands, Own}
 use Rattle.shipped.specs.Through.{Watched, watched, watchedOf, Watches}
 use Rattle.shipped.specs.Agrees.{VerdictAgrees, ShippedAgrees}
 use Rattle.shipped.specs.Made.{Call, AllMade, MadeRequest, AllRequested, AllMadeThrough, AllMadeAny}
-use Rattle.shipped.specs.Mounted.{MountsBy, keptBy, mountedBy, gameBy, watchedBy}
+use Rattle.shipped.specs.Mounted.{MountsBy, keptBy, mountedBy, gameBy, watchedBy, areaNumber}
 use Rattle.shipped.proofs.Mounted as mounting
 use Rattle.shipped.proofs.MadeSaves as shipped
 use Rattle.shipped.proofs.AnyBytes as any-bytes
@@ -353,14 +353,14 @@ mounted-ships = mounting.mount-made
 -- and any list of exported calls follows, each lent what the one before left, and each answering and leaving what its contract says: reads,
 -- writes, advances, saves out and in, windows, and the image mounted anew. They answer and leave what the calls on the mounted cartridge do,
 -- refused ones among them.
-pub calls-ship : (c : Call imf-mount.Learnt) (x : MountsBy c) (qs : List Request) → requests.Octets qs
+pub calls-ship : (c : Call imf-mount.Learnt) (x : MountsBy c) (qs : List Request) → requests.AllTyped qs
     → {got : Outs Reply Kept} → AllRequested (now (c .passed .1 .0)) (keptBy c) qs got
     → let served = servesOf (now (c .passed .1 .0)) (mountedBy c x) qs in got ≡ outs (served .answers) (keptOf (served .left))
 calls-ship = shipped.made-requests-ship
 
 -- On any bytes at all: those of a fit cartridge answer as it does, and what is left is read as what it leaves, and is what the library writes
 -- of it where the first bytes were; all others are refused with 13, and stay, until an image is mounted.
-pub calls-ship-on-any-bytes : (image : List ℕ) (k : Kept) → bytes.Octets (k .state) → (qs : List Request) → requests.Octets qs
+pub calls-ship-on-any-bytes : (image : List ℕ) (k : Kept) → bytes.Octets (k .state) → (qs : List Request) → requests.AllTyped qs
     → {got : Outs Reply Kept} → AllRequested image k qs got
     → let served = onLents image (lentOf k) qs in (got .answers ≡ served .answers) × Stands (Own (k .state)) (served .left) (got .left)
 calls-ship-on-any-bytes = any-bytes.any-bytes-ship
@@ -368,7 +368,7 @@ calls-ship-on-any-bytes = any-bytes.any-bytes-ship
 -- So it is with accesses through windows, beside those without them, by a player that keeps a cartridge with its windows: the state is asked where
 -- they say so, and the windows anew after an accepted write below 0x8000, a save that was read and an image that was mounted, or whenever the
 -- player likes.
-pub calls-ship-through-windows : (image : List ℕ) (m : Machine) (k : Watched) → Watches image m k → (qs : List Request) → requests.Octets qs
+pub calls-ship-through-windows : (image : List ℕ) (m : Machine) (k : Watched) → Watches image m k → (qs : List Request) → requests.AllTyped qs
     → {got : Outs Reply Watched} → AllMadeAny image k qs got
     → let served = servesOf image m qs in got ≡ outs (served .answers) (watchedOf (served .left))
 calls-ship-through-windows = windows.made-all-ship
@@ -390,9 +390,9 @@ pub shipped-header-agrees : (c : Call imf-header.Learnt) (wall : ℕ) → ImageI
     → VerdictAgrees (now (c .passed .0)) wall (c .answer) (λ d. (c .answer ≡ 0) × (now (c .left .1 .0) ≡ factsOf d))
 shipped-header-agrees = verdict.header-agrees
 
--- and so does `imf_mount`, but for 12, the number of the RAM area that it is lent.
+-- and so does `imf_mount`, but for 12, the number of a RAM area of another length than the cartridge wants.
 pub shipped-mount-agrees : (c : Call imf-mount.Learnt) (wall : ℕ) → ImageInDomain (now (c .passed .1 .0))
-    → VerdictAgrees (now (c .passed .1 .0)) wall (c .answer) (λ d. (c .answer ≡ 0) ⊎ (c .answer ≡ 12))
+    → VerdictAgrees (now (c .passed .1 .0)) wall (c .answer) (λ d. c .answer ≡ areaNumber c d)
 shipped-mount-agrees = verdict.mount-agrees
 
 -- "mapped byte and changed RAM", as in 6: their numbers are those of answers, and their bytes those of a cartridge, that agree with the Rust,
@@ -402,20 +402,31 @@ pub shipped-calls-agree : (c : Call imf-mount.Learnt) (x : MountsBy c) (octets :
     → ShippedAgrees (gameBy c x octets) none accesses got
 shipped-calls-agree = ships.made-agrees
 
--- through windows too,
-pub shipped-windows-agree : (c : Call imf-mount.Learnt) (x : MountsBy c) (octets : bytes.Octets (now (c .passed .1 .0)))
-    → (d : Call imf-windows.Learnt) → now (d .passed .0) ≡ keptBy c .state → (accesses : List Access) → calls.Octets accesses
-    → Unseen (gameBy c x octets) none accesses
-    → {got : Outs ℕ Watched} → AllMadeThrough (now (c .passed .1 .0)) (watchedBy c d) accesses got
-    → ShippedAgrees (gameBy c x octets) none accesses (outs (got .answers) (got .left .kept))
-shipped-windows-agree = ships.made-through-agrees
-
 -- and after an `imf_save_in` that answered 0, at the wall time of the mounting, with what 6 asks of a block that is cut short.
 pub shipped-saved-calls-agree : (c : Call imf-mount.Learnt) (x : MountsBy c) (octets : bytes.Octets (now (c .passed .1 .0)))
-    (save : List ℕ) (clock : ℕ) → bytes.Octets save
+    (save : List ℕ) (clock : ℕ)
     → {l : Out Reply Kept} → MadeRequest (now (c .passed .1 .0)) (keptBy c) (requests.loads save (c .passed .1 .1 .1 .0) clock) l
-    → l .answer .number ≡ 0 → CutHarmless (gameBy c x octets) (some save) → (accesses : List Access) → calls.Octets accesses
-    → Unseen (gameBy c x octets) (some save) accesses
+    → bytes.Octets save → l .answer .number ≡ 0 → CutHarmless (gameBy c x octets) (some save) → (accesses : List Access)
+    → calls.Octets accesses → Unseen (gameBy c x octets) (some save) accesses
     → {got : Outs ℕ Kept} → AllMade (now (c .passed .1 .0)) (l .left) accesses got
     → ShippedAgrees (gameBy c x octets) (some save) accesses got
 shipped-saved-calls-agree = ships.made-saved-agrees
+
+-- Through windows too, by a player that keeps the beginning of a game with them: one of 10, and file is none,
+pub shipped-windows-agree : (g : Game) (file : Option (List ℕ)) → Readable g file → CutHarmless g file → (k : Watched)
+    → Watches (g .image) (begins g file) k → (accesses : List Access) → calls.Octets accesses → Unseen g file accesses
+    → {got : Outs ℕ Watched} → AllMadeThrough (g .image) k accesses got
+    → ShippedAgrees g file accesses (outs (got .answers) (got .left .kept))
+shipped-windows-agree = ships.made-through-agrees
+
+-- or one after that `imf_save_in`, and an `imf_windows` on what it left.
+pub saved-watches : (c : Call imf-mount.Learnt) (x : MountsBy c) (octets : bytes.Octets (now (c .passed .1 .0))) (save : List ℕ) (clock : ℕ)
+    → {l : Out Reply Kept} → MadeRequest (now (c .passed .1 .0)) (keptBy c) (requests.loads save (c .passed .1 .1 .1 .0) clock) l
+    → (d : Call imf-windows.Learnt) → now (d .passed .0) ≡ l .left .state
+    → Watches (now (c .passed .1 .0)) (begins (gameBy c x octets) (some save)) (watched (l .left) (now (d .left .1 .0)))
+saved-watches = ships.made-watches
+
+pub saved-is-readable : (c : Call imf-mount.Learnt) (x : MountsBy c) (octets : bytes.Octets (now (c .passed .1 .0))) (save : List ℕ) (clock : ℕ)
+    → {l : Out Reply Kept} → MadeRequest (now (c .passed .1 .0)) (keptBy c) (requests.loads save (c .passed .1 .1 .1 .0) clock) l
+    → bytes.Octets save → l .answer .number ≡ 0 → Readable (gameBy c x octets) (some save)
+saved-is-readable = ships.made-readable

@@ -16,21 +16,22 @@ use Rattle.runs.specs.Game.{answerTo, cartBy}
 use Rattle.runs.proofs.RunLaws.{run-ready, mount-ready}
 use Rattle.runs.proofs.SaveLaws.{load-ready}
 use Rattle.shipped.specs.Ships.{Sound}
-use Rattle.shipped.specs.Requests.{Request, serveOf, servesOf, cartMounted, Octet, Octets, Reply, bare}
+use Rattle.shipped.specs.Requests.{Request, serveOf, servesOf, cartMounted, Typed, AllTyped, Reply, bare}
 use Rattle.shipped.specs.Requests as request
-use Rattle.shipped.specs.Through.{Watched, watchedOf, Watches, passedOf}
+use Rattle.shipped.specs.Through.{Watched, watchedOf, Watches}
 use Rattle.shipped.specs.Along.{Out, Outs, out, outs}
 use Rattle.shipped.specs.Sequence.{Kept}
 use Rattle.shipped.specs.Made.{Stays, MadeAny, AllMadeAny, access, other}
 use Rattle.shipped.proofs.Saves.{request-ships, serve-sound}
 use Rattle.shipped.proofs.MadeSaves.{other-is}
 use Rattle.shipped.proofs.Through.{renewed-are, access-stays, through-step}
-use Rattle.shipped.proofs.MadeThrough.{taken-apart, both-outs}
+use Rattle.shipped.proofs.PartLaws.{outs-same, passed-same}
+use Rattle.shipped.proofs.MadeThrough.{taken-apart}
 use Rattle.shipped.proofs.AlongLaws.{along-follows}
 
 -- ---- the image and the area stay those of the mounting
 
-serve-ready : (image : List ℕ) (m : Machine) → Ready image m → (q : Request) → Octet q → Ready image (serveOf image m q .left)
+serve-ready : (image : List ℕ) (m : Machine) → Ready image m → (q : Request) → Typed q → Ready image (serveOf image m q .left)
 unfolding mount.areaAfter
 serve-ready image m r (request.bus a) o = run-ready image m (a ∷ []) r (o, tt)
 serve-ready image m r (request.asks size) o = r
@@ -68,15 +69,12 @@ module _ (image : List ℕ) (m : Machine) (h : Sound m) (r : Ready image m) wher
 
   -- ---- one call
 
-  with-windows : {x y : Out Reply Kept} {v u : List ℕ} → x ≡ y → v ≡ u → passedOf x v ≡ passedOf y u
-  with-windows p q = cc
-
-  any-ships : {q : Request} → Octet q → {x : Out Reply Watched} → MadeAny image (watchedOf m) q x
+  any-ships : {q : Request} → Typed q → {x : Out Reply Watched} → MadeAny image (watchedOf m) q x
       → x ≡ out (serveOf image m q .answer) (watchedOf (serveOf image m q .left))
   any-ships o (access made) = ap bare (through-step image m h r o made)
   any-ships {q} o (other made n) =
       let e = other-is made ∙ request-ships image m h q in
-      with-windows e
+      passed-same e
       (renewed-are (serveOf image m q .left) (serve-sound image m h q o) (ap (λ (y : Out Reply Kept). y .left .state) e)
       (λ s. ap numbersOf (sym (serve-stays q (subst (λ (y : Out Reply Kept). Stays q (y .answer .number)) e s)))) n)
 
@@ -84,14 +82,14 @@ module _ (image : List ℕ) (m : Machine) (h : Sound m) (r : Ready image m) wher
 
 -- Any list of exported calls that were made, accesses through windows or not and saves among them, answers and leaves what the calls on
 -- that cartridge do.
-pub made-all-ship : (image : List ℕ) (m : Machine) (k : Watched) → Watches image m k → (qs : List Request) → Octets qs
+pub made-all-ship : (image : List ℕ) (m : Machine) (k : Watched) → Watches image m k → (qs : List Request) → AllTyped qs
     → {got : Outs Reply Watched} → AllMadeAny image k qs got
     → let served = servesOf image m qs in got ≡ outs (served .answers) (watchedOf (served .left))
 made-all-ship image m k h qs o {got} made =
     let all =
-    along-follows (MadeAny image) (serveOf image) (Watches image) Octet Octets (λ q rest os. os)
+    along-follows (MadeAny image) (serveOf image) (Watches image) Typed AllTyped (λ q rest os. os)
     (λ n j w q b y x. taken-apart
     (any-ships image n (w .sound) (w .ready) b (subst (λ (i : Watched). MadeAny image i q y) (w .is) x))
     (serve-sound image n (w .sound) q b) (serve-ready image n (w .ready) q b))
     m k h qs o got made in
-    both-outs (all .0) (all .1 .is)
+    outs-same (all .0) (all .1 .is)

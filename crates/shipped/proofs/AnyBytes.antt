@@ -46,7 +46,7 @@ use Rattle.player.specs.Windows.{askedNumber, askedWindows, windowsNumber, wind
 use Rattle.shipped.specs.Along.{Out, Outs, out}
 use Rattle.shipped.specs.Sequence.{Kept, kept}
 use Rattle.shipped.specs.Ships.{Sound}
-use Rattle.shipped.specs.Requests.{Request, Reply, requestOf, Octet, Octets}
+use Rattle.shipped.specs.Requests.{Request, Reply, requestOf, Typed, AllTyped}
 use Rattle.shipped.specs.Requests as request
 use Rattle.shipped.specs.Held.{Held, cart, others, heldBy, Lent, lent, lentOf, onOthers, heldMounted, onLent, onLents, Stands, Own}
 use Rattle.shipped.specs.Made.{MadeRequest, AllRequested}
@@ -183,7 +183,7 @@ begins k o = go (decodeOf (k .state)) refl
         }) (λ f. record { stands = record { state = refl; area = refl }; sound = unfit c e f })
     go NoState e = record { stands = record { state = refl; area = refl }; sound = none e }
 
-other-holds : {own : Type 0} (image s area : List ℕ) → Other s → (q : Request) → Octet q
+other-holds : {own : Type 0} (image s area : List ℕ) → Other s → (q : Request) → Typed q
     → Holds own (onOthers image s area q .left) (kept (otherAfter image s area q) (onOthers image s area q .left .area))
 other-holds image s area o (request.bus a) b = record { stands = record { state = refl; area = refl }; sound = o }
 other-holds image s area o (request.asks size) b = record { stands = record { state = refl; area = refl }; sound = o }
@@ -204,7 +204,7 @@ other-holds {own} image s area o (request.mounts wall) b = go (mount.mountOf ima
         }
     go (mounted.Refuse w) e = record { stands = record { state = refl; area = refl }; sound = o }
 
-held-step : {own : Type 0} (image : List ℕ) (h : Held) (area : List ℕ) (k : Kept) → Holds own (lent h area) k → (q : Request) → Octet q
+held-step : {own : Type 0} (image : List ℕ) (h : Held) (area : List ℕ) (k : Kept) → Holds own (lent h area) k → (q : Request) → Typed q
     → (x : Out Reply Kept) → MadeRequest image k q x
     → (x .answer ≡ onLent image (lent h area) q .answer) × Holds own (onLent image (lent h area) q .left) (x .left)
 held-step image (cart c) area k r q o x made =
@@ -238,11 +238,11 @@ held-step {own} image (others t) area k r q o x made =
 
 -- Any list of calls that were made, on any bytes: the answers are those of the calls on what is held, and what they leave stands for what
 -- these leave.
-pub any-bytes-ship : (image : List ℕ) (k : Kept) → bytes.Octets (k .state) → (qs : List Request) → Octets qs
+pub any-bytes-ship : (image : List ℕ) (k : Kept) → bytes.Octets (k .state) → (qs : List Request) → AllTyped qs
     → {got : Outs Reply Kept} → AllRequested image k qs got
     → let served = onLents image (lentOf k) qs in (got .answers ≡ served .answers) × Stands (Own (k .state)) (served .left) (got .left)
 any-bytes-ship image k octets qs o {got} made =
     let all =
-    along-follows (MadeRequest image) (onLent image) (Holds (Own (k .state))) Octet Octets (λ q rest os. os)
+    along-follows (MadeRequest image) (onLent image) (Holds (Own (k .state))) Typed AllTyped (λ q rest os. os)
     (λ l j r q b x m. held-step image (l .held) (l .area) j r q b x m) (lentOf k) k (begins k octets) qs o got made in
     (all .0, all .1 .stands)

@@ -53,6 +53,7 @@ use Rattle.shipped.specs.Made.{Call, AllMade}
 use Rattle.shipped.specs.Moves.{Moved, movedBy, movedOf, thenMoved, singleMoves, SameMoved, onesLeft}
 use Rattle.shipped.specs.Along.{Outs, outs}
 use Rattle.shipped.proofs.InTimeLaws as timing
+use Rattle.shipped.proofs.PartLaws.{outs-same, kept-same}
 use Rattle.shipped.proofs.Made.{all-made-are}
 use Rattle.shipped.proofs.PlainLaws.{timed-stays, untimed-still, advance-plain}
 use Rattle.shipped.proofs.StepLaws.{decoded}
@@ -214,13 +215,8 @@ ones-of (suc n) image s ram o z =
     let t = stateAdvanced s 1 in
     ap (λ (r : Outs ℕ Kept). record { answers = advanceOf s 1 ∷ r .answers; left = r .left })
     (ones-of n image t ram (advanced-octets s 1 o) (p .rest))
-    ∙ two (p .one) (left n (p .same))
+    ∙ outs-same (ap (λ (x : ℕ). x ∷ replicate n 0) (p .one)) (kept-same (left n (p .same)) refl)
   where
-    two : {x y : ℕ} {t u : List ℕ} → x ≡ y → t ≡ u
-        → _≡_ {A = Outs ℕ Kept} (record { answers = x ∷ replicate n 0; left = record { state = t; area = ram } })
-        (record { answers = y ∷ replicate n 0; left = record { state = u; area = ram } })
-    two p q = cc
-
     left : (n : ℕ) → stateAdvanced (stateAdvanced s 1) n ≡ stateAdvanced s (suc n) → onesLeft n (stateAdvanced s 1) ≡ stateAdvanced s (suc n)
     left zero e = refl
     left (suc n) e = e

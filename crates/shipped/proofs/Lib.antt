@@ -1,3 +1,4 @@
+pub mod PartLaws
 pub mod AlongLaws
 pub mod NumberLaws
 pub mod InTimeLaws

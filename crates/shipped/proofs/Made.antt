@@ -7,14 +7,11 @@ use denote.Ref.{now}
 use Rattle.bus.specs.Run.{Access}
 use Rattle.flat_write.specs.Calls.{stateWritten, areaWritten, stateAdvanced}
 use Rattle.player.specs.Bus.{readOf, writeOf, advanceOf}
-use Rattle.shipped.specs.Sequence.{Kept, callOf, callsOf, kept}
-use Rattle.shipped.specs.Along.{Out, Outs, out}
+use Rattle.shipped.specs.Sequence.{Kept, callOf, callsOf}
+use Rattle.shipped.specs.Along.{Out, Outs}
 use Rattle.shipped.specs.Made.{Made, read, write, advance, AllMade}
+use Rattle.shipped.proofs.PartLaws.{out-same, kept-same}
 use Rattle.shipped.proofs.AlongLaws.{along-are}
-
-answered : {x y : ℕ} {s t ram area : List ℕ} → x ≡ y → s ≡ t → ram ≡ area
-    → _≡_ {A = Out ℕ Kept} (out x (kept s ram)) (out y (kept t area))
-answered p q r = cc
 
 -- what is said of the bytes that were lent is said of those that the player keeps
 pub of-one : {A : Type 0} (f : List ℕ → A) {x : A} {s t : List ℕ} → s ≡ t → x ≡ f s → x ≡ f t
@@ -26,18 +23,18 @@ of-two f {area = area} e g p = of-one (λ s. f s area) e (of-one (f _) g p)
 pub made-is : {image : List ℕ} {k : Kept} {a : Access} {x : Out ℕ Kept} → Made image k a x → x ≡ callOf image k a
 made-is {image} {k} (read c p q r) =
     let addr = c .passed .1 .1 .1 .0 in
-    answered
+    out-same
     (of-two (λ s ram. readOf s image ram addr) p r
-    (of-one (λ l. readOf (now (c .passed .0)) l (now (c .passed .1 .1 .0)) addr) q (c .known))) refl refl
+    (of-one (λ l. readOf (now (c .passed .0)) l (now (c .passed .1 .1 .0)) addr) q (c .known))) refl
 made-is (write c p q) =
     let addr = c .passed .1 .1 .0 in
     let byte = c .passed .1 .1 .1 .0 in
-    answered (of-two (λ s ram. writeOf s ram addr byte) p q (c .known .0))
-    (of-two (λ s ram. stateWritten s ram addr byte) p q (c .known .1 .0))
-    (of-two (λ s ram. areaWritten s ram addr byte) p q (c .known .1 .1))
+    out-same (of-two (λ s ram. writeOf s ram addr byte) p q (c .known .0))
+    (kept-same (of-two (λ s ram. stateWritten s ram addr byte) p q (c .known .1 .0))
+    (of-two (λ s ram. areaWritten s ram addr byte) p q (c .known .1 .1)))
 made-is (advance c p) =
     let n = c .passed .1 .0 in
-    answered (of-one (λ s. advanceOf s n) p (c .known .0)) (of-one (λ s. stateAdvanced s n) p (c .known .1)) refl
+    out-same (of-one (λ s. advanceOf s n) p (c .known .0)) (kept-same (of-one (λ s. stateAdvanced s n) p (c .known .1)) refl)
 
 pub all-made-are : {image : List ℕ} {k : Kept} {accesses : List Access} {r : Outs ℕ Kept} → AllMade image k accesses r
     → r ≡ callsOf image k accesses

@@ -11,19 +11,21 @@ use Rattle.player.specs.Save.{sizeOf, sizeAsked, saveOf, roomSaved, sizeSaved, 
 use Rattle.player.specs.Windows.{windowsNumber, windowsAfter}
 use Rattle.player.proofs.imf_mount.Reads as imf-mount
 use Rattle.shipped.specs.Sequence.{Kept, kept}
-use Rattle.shipped.specs.Requests.{Request, reply, requestOf, requestsOf, servesOf, Octets, Reply, bare}
+use Rattle.shipped.specs.Requests.{Request, reply, requestOf, requestsOf, servesOf, AllTyped, Reply, bare}
 use Rattle.shipped.specs.Along.{Out, Outs, out, outs}
 use Rattle.shipped.specs.Ships.{keptOf}
 use Rattle.shipped.specs.Made.{Call, MadeOther, asked, saved, loaded, looked, mounted, MadeRequest, AllRequested, access, other}
 use Rattle.shipped.specs.Mounted.{keptBy, MountsBy, mountedBy}
+use Rattle.shipped.proofs.PartLaws.{out-same, kept-same, reply-same}
 use Rattle.shipped.proofs.Made.{of-one, of-two, made-is}
 use Rattle.shipped.proofs.Mounted.{mount-leaves}
 use Rattle.shipped.proofs.Saves.{requests-ship}
 use Rattle.shipped.proofs.AlongLaws.{along-are}
 
+-- an answered call, by its number, room and word, and what is kept
 pub replied : {x y v w : ℕ} {a b s t ram area : List ℕ} → x ≡ y → a ≡ b → v ≡ w → s ≡ t → ram ≡ area
-    → _≡_ {A = Out Reply Kept} (out (reply x a v) (kept s ram)) (out (reply y b w) (kept t area))
-replied p q r e f = cc
+    → out (reply x a v) (kept s ram) ≡ out (reply y b w) (kept t area)
+replied p q r e f = out-same (reply-same p q r) (kept-same e f)
 
 pub other-is : {image : List ℕ} {k : Kept} {q : Request} {x : Out Reply Kept} → MadeOther image k q x → x ≡ requestOf image k q
 other-is (asked c p) =
@@ -60,7 +62,7 @@ request-is (access m) = ap bare (made-is m)
 request-is (other m) = other-is m
 
 -- So after an `imf_mount` that answered 0 any list of calls that were made answers, and leaves, what the calls on the cartridge do.
-pub made-requests-ship : (c : Call imf-mount.Learnt) (x : MountsBy c) (qs : List Request) → Octets qs
+pub made-requests-ship : (c : Call imf-mount.Learnt) (x : MountsBy c) (qs : List Request) → AllTyped qs
     → {got : Outs Reply Kept} → AllRequested (now (c .passed .1 .0)) (keptBy c) qs got
     → let served = servesOf (now (c .passed .1 .0)) (mountedBy c x) qs in got ≡ outs (served .answers) (keptOf (served .left))
 made-requests-ship c x qs o made =

@@ -29,19 +29,20 @@ use Rattle.player.specs.Windows.{askedNumber, askedWindows, windowsNumber, wind
 use Rattle.runs.proofs.SaveLaws as saves
 use Rattle.runs.specs.Game.{cartBy}
 use Rattle.shipped.specs.Ships.{keptOf, Sound}
-use Rattle.shipped.specs.Requests.{Request, reply, requestOf, requestsOf, serveOf, servesOf, cartMounted, Octet, Octets, Reply, bare}
+use Rattle.shipped.specs.Requests.{Request, reply, requestOf, requestsOf, serveOf, servesOf, cartMounted, Typed, AllTyped, Reply, bare}
 use Rattle.shipped.specs.Requests as request
 use Rattle.shipped.specs.Along.{Out, out, outs}
 use Rattle.shipped.specs.Sequence.{Kept, kept}
 use Rattle.shipped.proofs.InTimeLaws as timing
 use Rattle.shipped.proofs.StepLaws.{decoded, stateOf, step-any, own, step-sound, step-read}
+use Rattle.shipped.proofs.PartLaws.{out-same, kept-same, reply-same}
 use Rattle.shipped.proofs.PlainSaves.{room-plain, save-plain, room-after-plain, load-plain}
 use Rattle.shipped.proofs.PlainWindows.{ask-plain}
 use Rattle.shipped.proofs.Shipped.{mount-sound}
 use Rattle.shipped.proofs.AlongLaws.{along-ships}
 
-abbrev replied : ℕ → List ℕ → ℕ → List ℕ → List ℕ → Out Reply Kept
-replied n room word s ram = out (reply n room word) (kept s ram)
+abbrev gives : ℕ → List ℕ → ℕ → List ℕ → List ℕ → Out Reply Kept
+gives n room word s ram = out (reply n room word) (kept s ram)
 
 -- ---- one call
 
@@ -61,31 +62,28 @@ pub request-any : (image s : List ℕ) (m : Machine) → decodeOf s ≡ To (plai
 unfolding sizeOf sizeAsked saveOf roomSaved sizeSaved loadOf stateLoaded areaLoaded clockLoaded load.areaAfter windowsNumber windowsAfter mountOf stateMounted
 request-any image s m e (request.bus a) = ap bare (step-any image s m e a)
 request-any image s m e (request.asks size) =
-    ap (λ (d : Decoded). replied (onState (λ c. roomNumber (save.roomFor c)) 13 d) []
+    ap (λ (d : Decoded). gives (onState (λ c. roomNumber (save.roomFor c)) 13 d) []
     (onState (λ c. roomSize size (save.roomFor c)) size d) s (m .area)) e
-    ∙ ap (λ (r : Room). replied (roomNumber r) [] (roomSize size r) s (m .area)) (room-plain (m .cart))
+    ∙ ap (λ (r : Room). gives (roomNumber r) [] (roomSize size r) s (m .area)) (room-plain (m .cart))
 request-any image s m e (request.saves room wall size) =
-    ap (λ (d : Decoded). replied (onState (λ c. savedNumber (save.saveOf c (m .area) (length room) wall)) 13 d)
+    ap (λ (d : Decoded). gives (onState (λ c. savedNumber (save.saveOf c (m .area) (length room) wall)) 13 d)
     (onState (λ c. save.roomAfter c (m .area) room wall) room d)
     (onState (λ c. savedSize size (save.saveOf c (m .area) (length room) wall)) size d) s (m .area)) e
-    ∙ ap (λ (r : Saved). replied (savedNumber r) (save.roomAfter (plain (m .cart)) (m .area) room wall) (savedSize size r) s (m .area))
+    ∙ ap (λ (r : Saved). gives (savedNumber r) (save.roomAfter (plain (m .cart)) (m .area) room wall) (savedSize size r) s (m .area))
     (save-plain (m .cart) (m .area) (length room) wall)
-    ∙ ap (λ (l : List ℕ). replied (savedNumber (save.saveOf (m .cart) (m .area) (length room) wall)) l
+    ∙ ap (λ (l : List ℕ). gives (savedNumber (save.saveOf (m .cart) (m .area) (length room) wall)) l
     (savedSize size (save.saveOf (m .cart) (m .area) (length room) wall)) s (m .area)) (room-after-plain (m .cart) (m .area) room wall)
 request-any image s m e (request.loads bytes wall clock) =
     let n = length (m .area) in
     let same = load-plain (m .cart) n bytes wall in
-    ap (λ (d : Decoded). replied (onState (λ c. loadedNumber (load.loadOf c n bytes wall)) 13 d) []
+    ap (λ (d : Decoded). gives (onState (λ c. loadedNumber (load.loadOf c n bytes wall)) 13 d) []
     (onState (λ c. loadedClock clock (load.loadOf c n bytes wall)) clock d)
     (onState (λ c. loadedState s (load.loadOf c n bytes wall)) s d)
     (onState (λ c. load.areaBy (m .area) bytes (load.loadOf c n bytes wall)) (m .area) d)) e
-    ∙ four (same .number) (same .clock clock) (same .state s) (same .area (m .area) bytes)
-  where
-    four : {x y v w : ℕ} {s t ram area : List ℕ} → x ≡ y → v ≡ w → s ≡ t → ram ≡ area → replied x [] v s ram ≡ replied y [] w t area
-    four p q r e = cc
+    ∙ out-same (reply-same (same .number) refl (same .clock clock)) (kept-same (same .state s) (same .area (m .area) bytes))
 request-any image s m e (request.looks words) =
-    ap (λ (d : Decoded). replied (onState (λ c. askedNumber (askOf c)) 13 d) (onState (λ c. askedWindows words (askOf c)) words d) 0 s (m .area)) e
-    ∙ ap (λ (r : Asked). replied (askedNumber r) (askedWindows words r) 0 s (m .area)) (ask-plain (m .cart))
+    ap (λ (d : Decoded). gives (onState (λ c. askedNumber (askOf c)) 13 d) (onState (λ c. askedWindows words (askOf c)) words d) 0 s (m .area)) e
+    ∙ ap (λ (r : Asked). gives (askedNumber r) (askedWindows words r) 0 s (m .area)) (ask-plain (m .cart))
 request-any image s m e (request.mounts wall) = refl
 
 -- of the cartridge's own they are the next one's own
@@ -110,9 +108,9 @@ pub request-ships : (image : List ℕ) (m : Machine) → Sound m → (q : Reques
     → requestOf image (keptOf m) q ≡ out (serveOf image m q .answer) (keptOf (serveOf image m q .left))
 request-ships image m h q =
     request-any image (encodeOf (m .cart)) m (decoded m h) q
-    ∙ ap (λ (s : List ℕ). out (serveOf image m q .answer) (kept s (serveOf image m q .left .area))) (own-after image m q)
+    ∙ out-same refl (kept-same (own-after image m q) refl)
 
-pub serve-sound : (image : List ℕ) (m : Machine) → Sound m → (q : Request) → Octet q → Sound (serveOf image m q .left)
+pub serve-sound : (image : List ℕ) (m : Machine) → Sound m → (q : Request) → Typed q → Sound (serveOf image m q .left)
 serve-sound image m h (request.bus a) o = step-sound image m h a o
 serve-sound image m h (request.asks size) o = h
 serve-sound image m h (request.saves room wall size) o = h
@@ -138,7 +136,7 @@ serve-sound image m h (request.mounts wall) o = go (mount.mountOf image (m .area
     go (mounted.Refuse w) e = record { fit = h .fit; timed = h .timed }
 
 -- and what it leaves of such bytes is read as what is then left
-pub request-read : (image s : List ℕ) (m : Machine) → Sound m → decodeOf s ≡ To (plain (m .cart)) → (q : Request) → Octet q
+pub request-read : (image s : List ℕ) (m : Machine) → Sound m → decodeOf s ≡ To (plain (m .cart)) → (q : Request) → Typed q
     → decodeOf (stateAfter image s m q) ≡ To (plain (serveOf image m q .left .cart))
 request-read image s m h e (request.bus a) o = step-read image s m h e a o
 request-read image s m h e (request.asks size) o = e
@@ -169,8 +167,8 @@ request-read image s m h e (request.mounts wall) o =
 
 -- Reads, writes, advances, saves out and in, windows and mountings, in any order: the numbers, the rooms and the words are those of the calls on the
 -- cartridge, and so are the bytes and the area that are left.
-pub requests-ship : (image : List ℕ) (m : Machine) → Sound m → (qs : List Request) → Octets qs
+pub requests-ship : (image : List ℕ) (m : Machine) → Sound m → (qs : List Request) → AllTyped qs
     → requestsOf image (keptOf m) qs ≡ outs (servesOf image m qs .answers) (keptOf (servesOf image m qs .left))
 requests-ship image m h qs o =
-    along-ships (requestOf image) (serveOf image) keptOf Sound Octet Octets (λ q rest os. os) (λ k s q _. request-ships image k s q)
+    along-ships (requestOf image) (serveOf image) keptOf Sound Typed AllTyped (λ q rest os. os) (λ k s q _. request-ships image k s q)
     (serve-sound image) m h qs o

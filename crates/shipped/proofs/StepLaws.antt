@@ -36,6 +36,7 @@ use Rattle.shipped.specs.Sequence.{callOf, Kept, kept}
 use Rattle.shipped.specs.Ships.{numberOf, keptOf, Sound}
 use Rattle.shipped.specs.Along.{Out, out}
 use Rattle.shipped.proofs.InTimeLaws as timing
+use Rattle.shipped.proofs.PartLaws.{out-same, kept-same}
 use Rattle.shipped.proofs.PlainLaws.{read-plain, write-plain, store-plain, untimed-still, advance-plain}
 
 -- the bytes of a sound cartridge are read as its plain one
@@ -44,9 +45,6 @@ decoded m h = fit-decode-encode (m .cart) (h .fit) (h .timed)
 
 abbrev answered : ℕ → List ℕ → List ℕ → Out ℕ Kept
 answered x s ram = out x (kept s ram)
-
-three : {x y : ℕ} {s t ram area : List ℕ} → x ≡ y → s ≡ t → ram ≡ area → answered x s ram ≡ answered y t area
-three p q r = cc
 
 -- the bytes that a call leaves of s, by what the cartridge answers
 abbrev pub stateOf : List ℕ → Machine → Access → List ℕ
@@ -73,7 +71,7 @@ step-any image s m e (run.writes addr byte) =
     ap (λ (d : Decoded). answered (onState (λ c. writeNumber (bus.writeOf c (m .area) addr byte)) 13 d)
     (onState (λ c. writeState s (bus.writeOf c (m .area) addr byte)) s d)
     (onState (λ c. bus.areaAfter c (m .area) addr byte) (m .area) d)) e
-    ∙ three (same .number) (same .state s) (store-plain (m .cart) (m .area) addr byte)
+    ∙ out-same (same .number) (kept-same (same .state s) (store-plain (m .cart) (m .area) addr byte))
     ∙ go (bus.writeOf (m .cart) (m .area) addr byte)
   where
     after : List ℕ
@@ -88,7 +86,7 @@ step-any image s m e (run.clocks n) =
     let same = advance-plain (m .cart) n in
     ap (λ (d : Decoded). answered (onState (λ c. advanceNumber (advance.advanceOf c n)) 13 d)
     (onState (λ c. advanceState s (advance.advanceOf c n)) s d) (m .area)) e
-    ∙ three (same .number) (same .state s) refl
+    ∙ out-same (same .number) (kept-same (same .state s) refl)
     ∙ go (advance.advanceOf (m .cart) n)
   where
     go : (r : Advanced)
@@ -116,7 +114,7 @@ own image m (run.clocks n) = go (advance.advanceOf (m .cart) n) refl
 
 pub step-ships : (image : List ℕ) (m : Machine) → Sound m → (a : Access)
     → callOf image (keptOf m) a ≡ out (numberOf a (stepOf image m a .answer)) (keptOf (stepOf image m a .left))
-step-ships image m h a = step-any image (encodeOf (m .cart)) m (decoded m h) a ∙ three refl (own image m a) refl
+step-ships image m h a = step-any image (encodeOf (m .cart)) m (decoded m h) a ∙ out-same refl (kept-same (own image m a) refl)
 
 -- ---- and leaves a sound one
 

@@ -59,6 +59,7 @@ use Rattle.shipped.specs.Made as made
 use Rattle.shipped.proofs.PlainLaws.{read-plain}
 use Rattle.shipped.proofs.PlainWindows.{ask-plain}
 use Rattle.shipped.proofs.StepLaws.{decoded, step-ships, step-sound}
+use Rattle.shipped.proofs.PartLaws.{out-same, kept-same, passed-same}
 use Rattle.shipped.proofs.Made.{of-one, of-two, made-is}
 
 -- `imf_windows` on the bytes of a sound cartridge gives its windows.
@@ -214,9 +215,6 @@ module _ (image : List ℕ) (m : Machine) (h : Sound m) (r : Ready image m) wher
         → callOf image (keptOf m) a ≡ answeredOf (afterWrite m x (bus.areaAfter cart area addr byte))
     answered e = step-ships image m h a ∙ ap (λ (x : WriteAnswer). answeredOf (afterWrite m x (bus.areaAfter cart area addr byte))) e
 
-    stored : {n k : ℕ} {l ram : List ℕ} → n ≡ k → l ≡ ram → _≡_ {A = Out ℕ Kept} (out n (kept state l)) (out k (kept state ram))
-    stored p q = cc
-
     puts-low : addr < 0x8000 → Asks
     unfolding windowWrite areaThrough
     puts-low g = let p = put-low (windowsOf cart) area addr byte g in (ap putNumber (sym (p .0)), sym (p .1))
@@ -239,7 +237,7 @@ module _ (image : List ℕ) (m : Machine) (h : Sound m) (r : Ready image m) wher
             inr (
               ap (λ (x : Put). eqb (putNumber x) 0x200) done,
               (
-                stored (ap putNumber done) (same-put .1)
+                out-same (ap putNumber done) (kept-same refl (same-put .1))
                     ∙ sym (answered (unasked-write-keeps cart area addr byte (r .fit) (r .area) g l e)),
                 omega (arith, g),
               ),
@@ -251,8 +249,9 @@ module _ (image : List ℕ) (m : Machine) (h : Sound m) (r : Ready image m) wher
         let p = outside-is-refused cart area addr byte (r .fit) (r .area) g i in (
           ap (λ (x : Put). eqb (putNumber x) 0x200) (p .0),
           (
-            stored (ap putNumber (p .0))
-                (sym (put-outside (windowsOf cart) area addr byte g i .1) ∙ sym (laws.refused-area cart area addr byte BadAddress (p .1)))
+            out-same (ap putNumber (p .0))
+                (kept-same refl
+                (sym (put-outside (windowsOf cart) area addr byte g i .1) ∙ sym (laws.refused-area cart area addr byte BadAddress (p .1))))
                 ∙ sym (answered (p .1)),
             g,
           ),
@@ -269,9 +268,6 @@ module _ (image : List ℕ) (m : Machine) (h : Sound m) (r : Ready image m) wher
 
   -- ---- an access that was made, through the windows or not
 
-  with-windows : {x y : Out ℕ Kept} {v u : List ℕ} → x ≡ y → v ≡ u → passedOf x v ≡ passedOf y u
-  with-windows p q = cc
-
   abbrev stepped : Access → Out ℕ Watched
   stepped a = out (numberOf a (stepOf image m a .answer)) (watchedOf (stepOf image m a .left))
 
@@ -279,7 +275,7 @@ module _ (image : List ℕ) (m : Machine) (h : Sound m) (r : Ready image m) wher
       → Renewed (StaysIn a (x .answer)) (x .left .state) w v → passedOf x v ≡ stepped a
   direct-ships a o {x} p n =
       let e = p ∙ step-ships image m h a in
-      with-windows e
+      passed-same e
       (renewed-are (stepOf image m a .left) (step-sound image m h a o) (ap (λ (y : Out ℕ Kept). y .left .state) e)
       (λ s. ap numbersOf (sym (access-stays a (subst (λ (y : Out ℕ Kept). StaysIn a (y .answer)) e s)))) n)
 
@@ -300,7 +296,8 @@ module _ (image : List ℕ) (m : Machine) (h : Sound m) (r : Ready image m) wher
           → passedOf (out (c .answer) (kept state (now (c .left .1 .0)))) w ≡ stepped (run.writes addr byte)
       go (inl x) = false≢true (sym f ∙ ap (λ (n : ℕ). eqb n ask) (put-known c p ∙ x .0))
       go (inr x) =
-          direct-ships (run.writes addr byte) o (stored addr byte (put-known c p) (area-known c p q) ∙ x .1 .0) (same (inl (x .1 .1)))
+          direct-ships (run.writes addr byte) o (out-same (put-known c p) (kept-same refl (area-known c p q)) ∙ x .1 .0)
+          (same (inl (x .1 .1)))
   through-step o (made.written c p q f {x = y} made {w = v} n) = go (puts addr byte)
     where
       addr : ℕ

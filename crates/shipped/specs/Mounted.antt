@@ -3,7 +3,12 @@ use mathlib.Core.List.{List}
 use mathlib.Core.Path.{_≡_}
 use Prim.Native.Nat.{ℕ}
 use denote.Ref.{now}
+use lib.Dec.{eqb}
+use lib.ListN.{length}
+use Rattle.facts.specs.Choice.{pick}
 use Rattle.bytes_le.specs.Little as bytes
+use Rattle.header.specs.declared.Facts.{Facts}
+use Rattle.cartridge.specs.Fit.{areaOf}
 use Rattle.cartridge.specs.declared.Cartridge.{Cartridge}
 use Rattle.mount.specs.Mount as mount
 use Rattle.mount.specs.declared.Mounted.the-variants as mounted
@@ -43,6 +48,12 @@ gameBy c x octets =
       octets = octets;
       mounts = x .mounted;
     }
+
+-- "12: lent RAM area of wrong length": the number of a mounting of an accepted header
+abbrev pub areaNumber : Call imf-mount.Learnt → Facts → ℕ
+areaNumber c d =
+    let want = areaOf (mount.cartOf d (length (now (c .passed .1 .0))) (c .passed .1 .1 .1 .0)) in
+    pick (eqb (length (now (c .passed .1 .1 .0))) want) 0 12
 
 -- the mounted cartridge with its area
 abbrev pub mountedBy : (c : Call imf-mount.Learnt) → MountsBy c → Machine

@@ -85,15 +85,15 @@ serveOf image m (mounts wall) =
 abbrev pub servesOf : List ℕ → Machine → List Request → Outs Reply Machine
 servesOf image = along (serveOf image)
 
--- a byte of eight bits in every write of the bus, and a wall time of 64 at a mounting
-abbrev pub Octet : Request → Type 0
-Octet (bus a) = calls.Octet a
-Octet (asks size) = Unit {0}
-Octet (saves room wall size) = Unit {0}
-Octet (loads bytes wall clock) = Unit {0}
-Octet (looks words) = Unit {0}
-Octet (mounts wall) = wall < 2 ^ 64
+-- what the types of the arguments give: a byte of eight bits in every write of the bus, and a wall time of 64 at a mounting
+abbrev pub Typed : Request → Type 0
+Typed (bus a) = calls.Octet a
+Typed (asks size) = Unit {0}
+Typed (saves room wall size) = Unit {0}
+Typed (loads bytes wall clock) = Unit {0}
+Typed (looks words) = Unit {0}
+Typed (mounts wall) = wall < 2 ^ 64
 
-abbrev pub Octets : List Request → Type 0
-Octets [] = Unit {0}
-Octets (q ∷ qs) = Octet q × Octets qs
+abbrev pub AllTyped : List Request → Type 0
+AllTyped [] = Unit {0}
+AllTyped (q ∷ qs) = Typed q × AllTyped qs
