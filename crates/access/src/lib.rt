@@ -1,5 +1,7 @@
 // Whether an access to a mounted cartridge can be made, and to which window: the one place where the order of the numbers 13 to 16
 // stands, for reads and writes alike.
+#![tactic(auto)]
+
 ghost use Rattle.std.specs.Prelude.{◌≡◌};
 ghost use Rattle.access.specs.Verdict.{number_of, noes_by, verdict_by, verdict_of};
 

@@ -1,5 +1,7 @@
 // Where an address of a window falls: in the padded image by a ROM bank, in the RAM area by a RAM bank. Every bank number is
 // taken modulo the number of banks.
+#![tactic(auto)]
+
 ghost use Rattle.std.specs.Prelude.{◌≡◌, ◌<◌};
 ghost use Rattle.banking.specs.Banks.{or_one, rom_place, ram_place, banked_place};
 

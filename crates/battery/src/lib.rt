@@ -1,4 +1,6 @@
 // What a battery keeps beside the RAM: of an MBC3 with a timer its clock, as a block; of any other cartridge nothing.
+#![tactic(auto)]
+
 ghost use Rattle.std.specs.Prelude.{◌≡◌, ◌≤◌, length};
 ghost use Rattle.battery.specs.Battery.{timer_of, clock_in, with_clock, has_clock, battery_size, put_battery, loaded_by, load_of};
 

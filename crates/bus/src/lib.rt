@@ -1,5 +1,7 @@
 // The bus: reads, writes and passing clocks of a mounted cartridge. No call asks anything of its caller: what does not fit
 // is refused, by the first of the numbers 13 to 17 that holds, and then nothing has changed.
+#![tactic(auto)]
+
 ghost use Rattle.std.specs.Prelude.{true, ◌≡◌};
 ghost use Rattle.mapper.specs.Mappers as moving;
 ghost use Rattle.cartridge.specs.Fit.{fit_cart};

@@ -1,5 +1,7 @@
 // What the programs that show the bus and the save file print: a line for each access, `R A000 5C` read, `W A000 5C` written,
 // `C 5` clocks passed, `F 512` RAM filled, `X 15` refused; and what a cartridge and its RAM area are.
+#![tactic(auto)]
+
 use bus::{Advanced, ReadAnswer, WriteAnswer};
 use cartridge::Cartridge;
 use libc::STDOUT_FILENO;

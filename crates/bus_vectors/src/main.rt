@@ -4,6 +4,8 @@
 //
 // The lines are the answers of mizu-core 1.3.0 to the same accesses on the same images, made by the same recipe. It cannot be
 // asked where an access or a mounting is refused: the last four cases' `X` and `N` lines are by the rules alone.
+#![tactic(auto)]
+
 mod directed;
 
 use bus_recipe::{build, draw};

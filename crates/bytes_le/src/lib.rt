@@ -1,5 +1,7 @@
 // Numbers of one, two, four and eight bytes, the least byte first, read from lent bytes and written to them at a place. A wider field is
 // two of half its width, one behind the other.
+#![tactic(auto)]
+
 ghost use Rattle.std.specs.Prelude.{◌≡◌, ◌+◌, ◌≤◌, length};
 ghost use Rattle.bytes_le.specs.Little.{field_at, put_at};
 

@@ -1,5 +1,7 @@
 // Fields written among bytes that stay, and read back: the bytes, then the numbers. The expected lines are by the rule alone: the
 // least byte first.
+#![tactic(auto)]
+
 use libc::STDOUT_FILENO;
 
 fn show(b: u8) {

@@ -1,4 +1,6 @@
 // A mounted cartridge by value: what was mounted, and its mapper. The image and the RAM area stay with the caller.
+#![tactic(auto)]
+
 ghost use Rattle.std.specs.Prelude.{◌≡◌, ◌*◌, eqb};
 ghost use Rattle.facts.specs.Listed.{one_of};
 ghost use Rattle.image.specs.Image.{padded_length};
@@ -8,7 +10,7 @@ ghost use Rattle.cartridge.specs.Fit.{bank_counts, fit_board, fit_cart, area_of}
 use facts::both;
 use mapper::Mapper;
 
-#[derive(Drop)]
+#[derive(Clone, Copy)]
 pub struct Cartridge {
     // The image's length in bytes, as it was handed in.
     pub length: usize,

@@ -1,6 +1,8 @@
 // The clock of an MBC3: its registers, a sub-second, the time in seconds, and a latch over a frozen copy.
 // A clock goes in by value and the next one comes back. An advance is a closed form by division: no loop and no
 // recursion, and one clock costs what 2^64 - 1 of them cost.
+#![tactic(auto)]
+
 ghost use Rattle.std.specs.Prelude.{◌≡◌, ◌<◌};
 ghost use Rattle.clock.specs.Fit.{fit_clock};
 ghost use Rattle.clock.specs.Ticking.{advance_of, number_of, Gone};
@@ -14,7 +16,7 @@ const ONE_SECOND_MAPPER_CLOCKS: u32 = 2_097_152;
 
 const LAST_TIME: u64 = 0xFFFF_FFFF_FFFF_FFFF;
 
-#[derive(Drop)]
+#[derive(Clone, Copy)]
 pub struct Clock {
     pub running: Registers,
     pub sub: u32,

@@ -1,5 +1,7 @@
 // The block that a save file holds behind the RAM of a cartridge with a timer: 21 bytes, little-endian. A block by value stands
 // between the clock and the bytes, so another layout is another crate beside this one.
+#![tactic(auto)]
+
 ghost use Rattle.std.specs.Prelude.{◌≡◌, ◌+◌, ◌≤◌, length, nat_lt};
 ghost use Rattle.clock_block.specs.Layout.{block_in, put_block};
 ghost use Rattle.clock_block.specs.Waking.{number_of, block_of, taken_of, wake_of};
@@ -13,7 +15,7 @@ pub const BLOCK_SIZE: usize = 21;
 
 const LAST_TIME: u64 = 0xFFFF_FFFF_FFFF_FFFF;
 
-#[derive(Drop)]
+#[derive(Clone, Copy)]
 pub struct Block {
     pub second: u8,
     pub minute: u8,

@@ -1,5 +1,7 @@
 // The registers of an MBC3's clock: second, minute, hour, day, halt and carry. Stepping by whole seconds is a closed form by
 // division: no loop and no recursion, and one second costs what 2^64 - 1 of them cost.
+#![tactic(auto)]
+
 ghost use Rattle.std.specs.Prelude.{true, ◌≡◌, ◌<◌, get_or};
 ghost use Rattle.facts.specs.Counter.{cyclic, Ran};
 ghost use Rattle.clock_registers.specs.Fit.{fit_registers};
@@ -8,7 +10,7 @@ ghost use Rattle.clock_registers.specs.Access.{zeros, readings, writings};
 
 use facts::{Counted, both, either, from_below};
 
-#[derive(Drop)]
+#[derive(Clone, Copy)]
 pub struct Registers {
     pub second: u8,
     pub minute: u8,

@@ -2,6 +2,8 @@
 // day, hour:minute:second, halt, carry, sub-second and time. A refusal is N and its number. A line ends in `=` where a slow
 // ticker (slow_clock) came to the same clock step by step, in `#` where it did not, and in `!` where ticking would
 // take years or the answer is a refusal: there a comment says why it is right.
+#![tactic(auto)]
+
 use clock::{Advanced, Clock, Shown, Written};
 use clock_registers::{Registers, Stepped};
 use libc::STDOUT_FILENO;

@@ -1,4 +1,6 @@
 // Text written into lent room from a place on: bytes, and numbers by their digits. Each call hands back the place behind its text.
+#![tactic(auto)]
+
 ghost use Rattle.std.specs.Prelude.{◌≡◌, ◌+◌, ◌<◌, ◌≤◌, length};
 ghost use Rattle.digits.specs.Digits.{figure_of, digits_of, width_of, hex_of, decimal_of};
 ghost use Rattle.digits.specs.Put.{Put};

@@ -1,4 +1,6 @@
 // What several crates need and nothing of the domain. Most of it is in specs/ (definitions) and proofs/ (laws).
+#![tactic(auto)]
+
 ghost use Rattle.std.specs.Prelude.{◌≡◌, ◌+◌, ◌-◌, ◌/◌, ◌%◌, ◌<◌};
 ghost use Rattle.facts.specs.Choice.{both, either};
 

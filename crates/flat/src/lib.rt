@@ -1,5 +1,7 @@
 // What a call needs, straight from the bytes of a state. No cartridge is built: each function looks at the bytes of the state's kind,
 // and answers as the cartridge would that they are.
+#![tactic(auto)]
+
 ghost use Rattle.std.specs.Prelude.{true, false, not, ◌≡◌, ◌+◌, ◌≤◌, eqb, length};
 ghost use Rattle.facts.specs.Choice.{both};
 ghost use Rattle.bytes_le.specs.Little.{field_at};

@@ -1,4 +1,6 @@
 // The windows of a cartridge straight from the bytes of its state. No mapper is built: each kind is asked for what moves its windows.
+#![tactic(auto)]
+
 ghost use Rattle.std.specs.Prelude.{◌≡◌, ◌≤◌, length};
 ghost use Rattle.mapper.specs.declared.Mapper.TheVariants as by;
 ghost use Rattle.states.specs.Reading.{decode_of, mapper_at};

@@ -1,5 +1,7 @@
 // The calls that change a state, straight on its bytes. Only the mapper is built: what was mounted stays in the bytes. Each answers
 // as the bus does on the cartridge that the bytes are, and a refused call has changed no lent byte.
+#![tactic(auto)]
+
 ghost use Rattle.std.specs.Prelude.{true, List, ◌≡◌, ℕ};
 ghost use Rattle.mapper.specs.Mappers as mapper;
 ghost use Rattle.cartridge.specs.Fit.{fit_cart};

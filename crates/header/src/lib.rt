@@ -1,5 +1,7 @@
 // The verdict on an image: what its header says, or the first of the numbers 1 to 11 that refuses it.
 // Only the header is read, and on an MBC1 image of 0x100000 bytes three more logos.
+#![tactic(auto)]
+
 ghost use Rattle.std.specs.Prelude.{◌≡◌, ◌/◌, ◌≤◌, length};
 ghost use Rattle.image.specs.Image.{byte_at, padded_length};
 ghost use Rattle.header.specs.Size.{rom_fits, ram_size_of};

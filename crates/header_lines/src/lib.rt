@@ -1,6 +1,8 @@
 // What the programs that show the header's verdict share: images by the recipe of build.rt, and the line for the verdict on
 // one. A line is `A`, kind, multicart, RAM, battery, banks, RAM size, colour and title length of an accepted image, or `N` and
 // the number of the refusal.
+#![tactic(auto)]
+
 pub mod build;
 
 use header::{Checked, Facts};

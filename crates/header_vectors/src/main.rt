@@ -1,4 +1,6 @@
 // The verdict on images of 0x8000 bytes and less. header_lines has the recipe of an image and says what a line tells.
+#![tactic(auto)]
+
 use header_lines::{build, cut, made, show};
 
 // Every type byte with 2 banks and no RAM.

@@ -1,5 +1,7 @@
 // An image as it was handed in, read as if it were padded with zeros: its bytes, its length, the logo, the title, the colour
 // flag and the header's checksum. Nothing is copied, and nothing is read but the bytes asked for.
+#![tactic(auto)]
+
 ghost use Rattle.std.specs.Prelude.{◌≡◌, ◌-◌, ◌<◌, ◌≤◌, length, slice_index};
 ghost use Rattle.image.specs.Image.{byte_at, padded_length, logo, logo_at, is_multicart, checksum_of, TitleEnd, title_of, title_start, place_in, is_colour};
 

@@ -1,6 +1,8 @@
 // The verdict on images of many sizes, up to 8,388,608 bytes and one more. header_lines has the recipe of an image and says what
 // a line tells. The one array that they are parts of stands on the stack, which needs more than the usual 8 MiB for it: the
 // Makefile raises the limit.
+#![tactic(auto)]
+
 use header_lines::{build, cut, made, show};
 
 // Length, type byte, ROM code and RAM code in one number.

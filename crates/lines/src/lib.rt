@@ -1,5 +1,7 @@
 // The lines of a replay, each written into lent room from a place on: a letter and a number, a letter with an address and a
 // byte, and the last line. Each call hands back the place behind its line.
+#![tactic(auto)]
+
 ghost use Rattle.std.specs.Prelude.{◌+◌, ◌≤◌, length};
 ghost use Rattle.digits.specs.Put.{Put};
 ghost use Rattle.lines.specs.Lines.{numbered, addressed, end_line};

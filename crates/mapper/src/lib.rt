@@ -1,4 +1,6 @@
 // The mappers as one: an enum over their registers, and each question passed on to the mapper that is in it.
+#![tactic(auto)]
+
 ghost use Rattle.std.specs.Prelude.{true, ◌≡◌, ◌≤◌, eqb};
 ghost use Rattle.mapper.specs.Mappers.{holds, fit_registers, area_of, bank0, bank_x, bank_at, written, bad_selection, advance_of, from_timer, kind_of, multicart_banks};
 ghost use Rattle.facts.specs.Choice.{pick};
@@ -14,7 +16,7 @@ use mbc5::Mbc5;
 use no_mapper::NoMapper;
 use types::Kind;
 
-#[derive(Drop)]
+#[derive(Clone, Copy)]
 pub enum Mapper {
     NoMapper(NoMapper),
     Mbc1(Mbc1),

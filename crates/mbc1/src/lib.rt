@@ -1,12 +1,14 @@
 // MBC1: up to 128 ROM banks and four RAM banks behind one five-bit and one two-bit register. The two-bit register feeds the
 // high ROM bits always, the low window and the RAM bank in mode 1 only.
+#![tactic(auto)]
+
 ghost use Rattle.std.specs.Prelude.{true, ◌≡◌};
 ghost use Rattle.mbc1.specs.Registers.{low_of, start, written, bank0, bank_x, ram_at, fit_registers};
 
 use banking::RamAt;
 use facts::both;
 
-#[derive(Drop)]
+#[derive(Clone, Copy)]
 pub struct Mbc1 {
     pub multicart: bool,
     pub enabled: bool,

@@ -1,11 +1,13 @@
 // MBC2: up to 16 ROM banks, and 512 half-bytes of RAM of its own. One address range serves two registers, told apart by
 // address bit 8.
+#![tactic(auto)]
+
 ghost use Rattle.std.specs.Prelude.{◌≡◌, length};
 ghost use Rattle.mbc2.specs.Registers.{start, written, bank0, bank_x, half_read, half_after, fit_registers};
 
 use facts::both;
 
-#[derive(Drop)]
+#[derive(Clone, Copy)]
 pub struct Mbc2 {
     pub enabled: bool,
     pub bank: u8,

@@ -1,4 +1,6 @@
 // MBC3: up to 256 ROM banks, four RAM banks, and on some boards a clock, which the crate timer reads, writes and advances.
+#![tactic(auto)]
+
 ghost use Rattle.std.specs.Prelude.{◌≡◌};
 ghost use Rattle.mbc3.specs.Registers.{start, selectable, bad_selection, selected, latched, written, bank0, bank_x, ram_at, fit_registers};
 
@@ -6,7 +8,7 @@ use banking::RamAt;
 use clock::Clock;
 use facts::both;
 
-#[derive(Drop)]
+#[derive(Clone, Copy)]
 pub struct Mbc3 {
     pub timer: bool,
     pub enabled: bool,

@@ -1,11 +1,13 @@
 // MBC5: up to 512 ROM banks behind a nine-bit register in two parts, and sixteen RAM banks. Bank 0 can be selected.
+#![tactic(auto)]
+
 ghost use Rattle.std.specs.Prelude.{◌≡◌};
 ghost use Rattle.mbc5.specs.Registers.{start, written, bank0, bank_x, ram_at, fit_registers};
 
 use banking::RamAt;
 use facts::both;
 
-#[derive(Drop)]
+#[derive(Clone, Copy)]
 pub struct Mbc5 {
     pub enabled: bool,
     pub bank: u16,

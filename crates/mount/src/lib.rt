@@ -1,4 +1,6 @@
 // Mounting: the verdict on an image, the length of the lent RAM area, and the cartridge at its start.
+#![tactic(auto)]
+
 ghost use Rattle.std.specs.Prelude.{◌≡◌, ◌≤◌, length, replicate};
 ghost use Rattle.mount.specs.Mount.{number_of, start_of, cart_of, area_in, area_for, mount_of, area_after};
 

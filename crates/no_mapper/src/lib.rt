@@ -1,10 +1,12 @@
 // No mapper: two ROM banks where they stand, and at most 8 KiB of RAM that is always on. There is no register.
+#![tactic(auto)]
+
 ghost use Rattle.std.specs.Prelude.{◌≡◌};
 ghost use Rattle.no_mapper.specs.Registers.{start, written, bank0, bank_x, ram_at, fit_registers};
 
 use banking::RamAt;
 
-#[derive(Drop)]
+#[derive(Clone, Copy)]
 pub struct NoMapper {}
 
 impl NoMapper {

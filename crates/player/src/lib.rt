@@ -1,5 +1,7 @@
 // What a player links: the calls of the cartridge over lent bytes, with numbers for answers. The cartridge is 64 bytes that the caller
 // keeps; no call asks anything of them. Each answers 0 or the number of the refusal, and a refused call has changed no lent byte.
+#![tactic(auto)]
+
 ghost use Rattle.std.specs.Prelude.{◌≡◌, ◌<◌, length};
 ghost use Rattle.mount.specs.Mount as mounting;
 ghost use Rattle.windows.specs.Through.{rom_start};

@@ -1,6 +1,8 @@
 // Replays of many images and traces, each under the names of its files. The images and traces in data/ were made by a script, the
 // accesses of the mappers drawn with seed 20261115; the expected text is what mizu-core 1.3.0, unchanged behind a bench that reads
 // and writes as the rules say, gives for them.
+#![tactic(auto)]
+
 use libc::STDOUT_FILENO;
 
 fn case(rom: &[u8], trace: &[u8]) {

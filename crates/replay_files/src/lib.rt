@@ -1,5 +1,7 @@
 // The bench's program but for its name: it opens and reads the image and the trace, and writes out what `replay_program` makes of
 // them. No byte of the text is chosen here.
+#![tactic(auto)]
+
 ghost use Rattle.std.specs.Prelude.{◌≡◌, ◌≤◌, length};
 
 use libc::STDOUT_FILENO;

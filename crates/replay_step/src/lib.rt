@@ -1,5 +1,7 @@
 // One record of a replay: its access made to the bus, and its line written into lent room. A refused access has a line with its
 // number, and nothing has changed.
+#![tactic(auto)]
+
 ghost use Rattle.std.specs.Prelude.{List, [], ℕ, ◌+◌, ◌*◌, ◌≤◌, length};
 ghost use Rattle.bus.specs.Run.{reads, writes, clocks, step_of};
 ghost use Rattle.trace.specs.Trace.{size_of};

@@ -1,5 +1,7 @@
 // The replay of a trace against a cartridge, and its text: a line for each record, then why the reading stopped before the trace's
 // end, then the number of records. The caller lends room that is long enough for every trace of its length.
+#![tactic(auto)]
+
 ghost use Rattle.std.specs.Prelude.{◌≡◌, ◌≤◌, length};
 ghost use Rattle.digits.specs.Put.{Put};
 ghost use Rattle.replay_step.specs.Step.{machine};

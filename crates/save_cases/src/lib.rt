@@ -1,4 +1,6 @@
 // The cases of the program that shows the save file.
+#![tactic(auto)]
+
 use bus_lines::number;
 use cartridge::Cartridge;
 use clock_block::Block;

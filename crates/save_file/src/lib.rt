@@ -1,5 +1,7 @@
 // The save file: the RAM area, and behind it what the battery keeps of a clock. Saving writes into lent room, loading reads lent
 // bytes; what is refused, by the first of the numbers 13 to 21 that holds, has changed no byte and no field.
+#![tactic(auto)]
+
 ghost use Rattle.std.specs.Prelude.{◌≡◌, ◌≤◌, length, take};
 ghost use Rattle.save_file.specs.Admit.{number_of, admit_of};
 ghost use Rattle.save_file.specs.Save.{bytes_of, saved_of, room_by, save_of, room_after, room_for};
@@ -105,7 +107,8 @@ fn save_admitted(mapper: Mapper, ram: &[u8], room: &mut [u8], wall: u64) -> Save
     if room.len() - ram.len() < kept {
         return Saved::Refuse(SaveRefusal::ShortRoom);
     }
-    let start = bytes::copy(ram, room);
+    let start = ram.len();
+    room[..start].copy_from_slice(ram);
     battery::save_battery(mapper, wall, &mut room[start..]);
     Saved::Wrote(start + kept)
 }
@@ -131,7 +134,7 @@ fn restore(ram: &mut [u8], save: &[u8])
 {
     let start: usize = 0;
     let end = ram.len();
-    bytes::copy(&save[start..end], ram);
+    ram.copy_from_slice(&save[start..end]);
 }
 
 fn load_admitted(cart: Cartridge, ram: &mut [u8], save: &[u8], wall: u64) -> Loaded

@@ -1,4 +1,6 @@
 // What a cartridge and its save go through in the program that shows the save file.
+#![tactic(auto)]
+
 pub mod tables;
 
 use bus_lines::number;
@@ -8,11 +10,11 @@ use mount::Mounted;
 use save_lines::part;
 
 // Wall times of saving, of which the first reading is too, and of three more readings, or 0.
-#[derive(Drop)]
+#[derive(Clone, Copy)]
 pub struct Times(pub u64, pub u64, pub u64, pub u64);
 
 // What is read of a made save: a block, how many bytes of the save at most, and the wall time.
-#[derive(Drop)]
+#[derive(Clone, Copy)]
 pub struct Reading(pub Block, pub usize, pub u64);
 
 // Mounted at wall time 1000, filled and played, and saved at this wall time: the save's length.

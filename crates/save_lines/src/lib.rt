@@ -1,6 +1,8 @@
 // What is printed of a save: `S` its length and sum, `T` its last 25 bytes, which are a clock's block and four bytes of RAM, `E`
 // four bytes of the room beyond. `B` is how many bytes are read, `L` the wall time of a reading and its answer, `A` the sum of
 // the RAM area.
+#![tactic(auto)]
+
 use bus_lines::{field, number};
 use bus_recipe::build;
 use cartridge::Cartridge;

@@ -5,6 +5,8 @@
 // Where mizu-core 1.3.0 can be asked, the lines are its answers, made with the same images and accesses: it reads a save at mounting and
 // writes one at the end. It has no numbers and no lent room and reads no save later; it adds a sleep in one jump, takes blocks that
 // are cut or beyond the limits, and a save of an MBC2 that lacks bytes. There the lines are by the rules alone.
+#![tactic(auto)]
+
 mod rows;
 
 use bus_recipe::build;

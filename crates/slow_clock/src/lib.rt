@@ -1,4 +1,6 @@
 // A second clock, slow and written apart from the first: Clock 2 and Clock 3 with remainders, one step at a time.
+#![tactic(auto)]
+
 use clock::Clock;
 use clock_registers::Registers;
 

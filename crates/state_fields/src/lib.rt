@@ -1,4 +1,6 @@
 // The fields of a state: flags at a place, what was mounted and a clock at their own.
+#![tactic(auto)]
+
 ghost use Rattle.std.specs.Prelude.{List, ◌≡◌, ◌+◌, ◌≤◌, length};
 ghost use Rattle.facts.specs.Choice.{bit};
 ghost use Rattle.bytes_le.specs.Little.{put_at};

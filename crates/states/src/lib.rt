@@ -1,5 +1,7 @@
 // A cartridge as 64 bytes, for callers that keep it between calls. state_fields has the place of every field. What the mapper does not
 // use, and what no field has, is written as zero and not looked at; specs/Layout.antt says which bytes these are.
+#![tactic(auto)]
+
 ghost use Rattle.std.specs.Prelude.{◌≡◌, ◌≤◌, length, replicate};
 ghost use Rattle.facts.specs.Choice.{pick};
 ghost use Rattle.no_mapper.specs.Registers as none;

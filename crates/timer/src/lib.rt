@@ -1,4 +1,6 @@
 // The clock of an MBC3: its registers where they stand in the RAM window, and clocks that pass.
+#![tactic(auto)]
+
 ghost use Rattle.std.specs.Prelude.{◌≡◌};
 ghost use Rattle.timer.specs.ClockWindow.{on_clock, window_read, window_written};
 ghost use Rattle.timer.specs.Advance.{from_clock, advance_of};

@@ -1,5 +1,7 @@
 // The trace: records one behind the other in lent bytes, each a mark of two bytes and a body. What stands at a place is a record
 // and the place behind it, the end, or a refusal with the record's place.
+#![tactic(auto)]
+
 ghost use Rattle.std.specs.Prelude.{◌≡◌, ◌+◌, ◌≤◌, length};
 ghost use Rattle.trace.specs.Trace.{number_of, place_of, body_of, kind_of, record_of, whole_at, record_at, reader_at};
 
@@ -11,7 +13,7 @@ pub enum Record {
 }
 
 // Why no record stands at a place, with that place.
-#[derive(Drop)]
+#[derive(Clone, Copy)]
 pub enum TraceRefusal {
     UnknownMark(usize),
     CutShort(usize),
@@ -26,7 +28,7 @@ pub enum Next {
 }
 
 // A kind of record has a mark, a length of its body, and fields: `kind_of`, `body` and `record_of` say which.
-#[derive(Drop)]
+#[derive(Clone, Copy)]
 enum Kind {
     Read,
     Write,

@@ -1,5 +1,7 @@
 // What is read from traces, a line for each: the length, the records, and the end or a refusal's number and place. The expected
 // lines are by the rule alone.
+#![tactic(auto)]
+
 use libc::STDOUT_FILENO;
 use trace::{Next, Record, TraceRefusal};
 

@@ -1,10 +1,12 @@
 // The types of cartridge by their byte: a table of 24 rows, which of the kinds are supported, and how much each can hold.
+#![tactic(auto)]
+
 ghost use Rattle.std.specs.Prelude.{◌≡◌, ◌<◌, get_or};
 ghost use Rattle.types.specs.Types.{types, no_row, type_of, supported_of, beyond_of};
 
 use facts::either;
 
-#[derive(Drop)]
+#[derive(Clone, Copy)]
 pub enum Kind {
     NoMapper,
     Mbc1,
@@ -17,7 +19,7 @@ pub enum Kind {
 }
 
 // A row of the table of types.
-#[derive(Drop)]
+#[derive(Clone, Copy)]
 pub struct TypeRow(pub u8, pub Kind, pub bool, pub bool);
 
 const TYPES: [TypeRow; 24] = [

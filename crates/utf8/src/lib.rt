@@ -1,11 +1,13 @@
 // Whether bytes are UTF-8, as RFC 3629 has it: a reader that goes byte by byte and knows what the character it is in still
 // asks for.
+#![tactic(auto)]
+
 ghost use Rattle.std.specs.Prelude.{◌≡◌};
 ghost use Rattle.utf8.specs.Utf8.{chars, begun, after, done, is_utf8, pending};
 
 // Where a reader of UTF-8 stands: between characters, inside one that wants a byte of lo..=hi and
 // then some more tail bytes, or lost.
-#[derive(Drop)]
+#[derive(Clone, Copy)]
 enum State {
     Whole,
     Tail { lo: u8, hi: u8, more: u8 },

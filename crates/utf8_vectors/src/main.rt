@@ -1,5 +1,7 @@
 // How many byte strings are UTF-8: a line for each first byte, with the number of second bytes for which one byte, two, two and
 // a tail, and two and two tails pass. The expected lines are the counts of Rust's `String::from_utf8` over the same strings.
+#![tactic(auto)]
+
 ghost use Rattle.std.specs.Prelude.{◌≤◌};
 
 use libc::STDOUT_FILENO;

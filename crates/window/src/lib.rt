@@ -1,4 +1,6 @@
 // The RAM window 0xA000..=0xBFFF: the lent bytes, MBC2's half-bytes at their end, or a clock register.
+#![tactic(auto)]
+
 ghost use Rattle.std.specs.Prelude.{◌≡◌, length};
 ghost use Rattle.banking.specs.Banks.{Inside};
 ghost use Rattle.mapper.specs.Mappers.{area_of};

@@ -1,5 +1,7 @@
 // Where the three windows of a cartridge stand, as five numbers that a caller keeps. While they hold, reads and RAM writes need no
 // look at the state; a write below 0x8000 that is taken, a save that is read and a mounting may make others of them.
+#![tactic(auto)]
+
 ghost use Rattle.std.specs.Prelude.{◌≡◌, ◌+◌, ◌%◌, ◌<◌, ◌≤◌, get_or, set};
 ghost use Rattle.banking.specs.Banks.{Inside, rom_place};
 ghost use Rattle.image.specs.Image.{byte_at};
@@ -13,7 +15,7 @@ use mbc2::Mbc2;
 use mbc3::Mbc3;
 use window::Way;
 
-#[derive(Drop)]
+#[derive(Clone, Copy)]
 pub struct Windows {
     // The place in the padded image that 0x0000 shows, and the one that 0x4000 shows.
     pub rom0: u32,
@@ -34,7 +36,7 @@ pub const HALVES: u32 = 2;
 pub const ASK: u32 = 3;
 
 // The RAM window's three numbers.
-#[derive(Drop)]
+#[derive(Clone, Copy)]
 pub struct RamWindow {
     pub ram: u32,
     pub mask: u32,
