@@ -44,9 +44,9 @@ module _ (image ram : List ℕ) (wall : ℕ) where
 pub area_small : (image : List ℕ) {d : Facts} → check_of image ≡ Accept d → d.size ≤ 0x20000
 area_small image {d} e = one_of_le 0x20000 d.size ram_sizes refl (accepted_fits image d e).sized
 
-pub asked_by : (image : List ℕ) {k u : Checked} → k ≡ check_of image → k ≡ u → asked_by u ≡ area_for image
+pub asked_by_lem : (image : List ℕ) {k u : Checked} → k ≡ check_of image → k ≡ u → asked_by u ≡ area_for image
 unfolding area_for
-asked_by image e g = ap asked_by (sym g ∙ e)
+asked_by_lem image e g = ap asked_by (sym g ∙ e)
 
 -- it is the length that mounting accepts, whatever the wall time
 pub asked_is_area : (k : Kind) (multicart : Bool) (wall size : ℕ) → area_in k size ≡ mapper.area_of (start_of k multicart wall) size

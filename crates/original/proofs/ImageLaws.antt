@@ -119,10 +119,10 @@ logo_same s a =
 
 -- ---- the title
 
-up_to_zero : (l : List ℕ) → take_while (λ e. not (eqb e 0)) l ≡ up_to_zero l
+up_to_zero_lem : (l : List ℕ) → take_while (λ e. not (eqb e 0)) l ≡ up_to_zero l
 unfolding up_to_zero
-up_to_zero [] = refl
-up_to_zero (x ∷ l) = go (eqb x 0) (up_to_zero l)
+up_to_zero_lem [] = refl
+up_to_zero_lem (x ∷ l) = go (eqb x 0) (up_to_zero_lem l)
   where
     go : (t : Bool) {y z : List ℕ} → y ≡ z → pick (not t) (x ∷ y) [] ≡ pick t [] (x ∷ z)
     go true e = refl
@@ -150,7 +150,7 @@ dropped n (suc d) (x ∷ s) k = dropped n d s k
 
 pub title_same : (s : List ℕ) → take_while (λ e. not (eqb e 0)) (take 15 (drop 0x134 (padded s))) ≡ title_of s
 unfolding title_of padded
-title_same s = up_to_zero (take 15 (drop 0x134 (padded s))) ∙ dropped 15 0x134 s (padded_length (length s) - length s)
+title_same s = up_to_zero_lem (take 15 (drop 0x134 (padded s))) ∙ dropped 15 0x134 s (padded_length (length s) - length s)
 
 -- ---- the checksum
 

@@ -242,9 +242,9 @@ stored_byte m size area addr byte long = by m.memory
     by false = refl
 
 -- a write to RAM leaves the mapper, and so does one to a clock register that does not stand in the window
-pub after_write : (m : declared3.Mbc3) (size addr byte : ℕ) → window.mapper_after (Mbc3 m) size addr byte ≡ Mbc3 (window_written m byte)
+pub after_write_lem : (m : declared3.Mbc3) (size addr byte : ℕ) → window.mapper_after (Mbc3 m) size addr byte ≡ Mbc3 (window_written m byte)
 unfolding window.mapper_after
-after_write m size addr byte = by m.memory refl
+after_write_lem m size addr byte = by m.memory refl
   where
     off : (a b : Bool) → both a (both b false) ≡ false
     off true true = refl
@@ -299,7 +299,7 @@ module _ (banks size : ℕ) (area : List ℕ) (past : Since) (m : declared3.Mbc3
       let x =
       mbc3.write_mapped banks size past m u q addr byte l
       (domain.clock_write_lem banks size past m u q addr byte (window.mapper_after (Mbc3 m) size addr byte) d i
-      (after_write m size addr byte)) in
+      (after_write_lem m size addr byte)) in
       record {
         next = original.Mbc3 x.next;
         result = follows.stored_at m size addr;
@@ -309,7 +309,7 @@ module _ (banks size : ℕ) (area : List ℕ) (past : Since) (m : declared3.Mbc3
         same =
             subst (λ (y : Mapper). SameMapper banks size (window.area_after (Mbc3 m) size area addr byte) past y
             (original.Mbc3 x.next))
-            (sym (after_write m size addr byte)) (x.next, refl, x.same);
+            (sym (after_write_lem m size addr byte)) (x.next, refl, x.same);
       }
 
 -- a mapper whose window is a place in RAM, and that no access there changes

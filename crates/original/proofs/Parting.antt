@@ -77,7 +77,7 @@ also r h n b c f k x y =
       theirs = y;
     })
 
-pub all_hold : AllHold rows
+pub all_hold_lem : AllHold rows
 unfolding
     bus.read_of
     bus.read_verdict
@@ -133,7 +133,7 @@ unfolding
     rtc.update_registers
     rtc.add_to_registers
     rtc.clock_second_part
-all_hold =
+all_hold_lem =
     also within (omega arith) (omega arith) (omega arith) refl refl refl refl refl
     (also carry_set (omega arith) (omega arith) (omega arith) refl refl refl refl refl
     (also minute_sixty (omega arith) (omega arith) (omega arith) refl refl refl refl refl

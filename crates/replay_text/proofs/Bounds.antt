@@ -19,9 +19,9 @@ use Rattle.replay_step.specs.Step.{access_of, line_of}
 use Rattle.replay_step.proofs.Bounds.{line_length}
 use Rattle.replay_text.specs.Replay.{stop_line, lines_by, text_of, room_for}
 
-lines_length : (rom : List ℕ) (m : Machine) {s : List ℕ} {at : ℕ} {x : Records} → Octets s → Reads s at x
+lines_length : (rom : List ℕ) {s : List ℕ} (m : Machine) {at : ℕ} {x : Records} → Octets s → Reads s at x
     → 2 * length (lines_by rom m x) ≤ 5 * sizes_of x.records
-lines_length rom m {s} {at} o (seen.found {r = r} {rest} e t) =
+lines_length rom {s} m {at} o (seen.found {r = r} {rest} e t) =
     let y = step_of rom m (access_of r) in
     omega (
       arith,

@@ -83,10 +83,10 @@ save_by c ram room wall e g =
     then_first saved.Refuse (saved_of bytes room) c (length ram) e g
     ∙ first_append saved.Refuse (admit_noes c (length ram)) (room_noes bytes room) (saved.Wrote (length bytes))
 
-pub room_by : (c : Cartridge) (ram room : List ℕ) (wall : ℕ) {x : Saved} → x ≡ save_of c ram (length room) wall
+pub room_by_lem : (c : Cartridge) (ram room : List ℕ) (wall : ℕ) {x : Saved} → x ≡ save_of c ram (length room) wall
     → room_by (bytes_of c.mapper ram wall) room x ≡ room_after c ram room wall
 unfolding room_after
-room_by c ram room wall e = ap (room_by (bytes_of c.mapper ram wall) room) e
+room_by_lem c ram room wall e = ap (room_by (bytes_of c.mapper ram wall) room) e
 
 module _ (m : Mapper) (ram : List ℕ) (wall room : ℕ) {kept : ℕ} (z : kept ≡ battery_size (clock_in m)) where
   bytes_length : length ram + kept ≡ length (bytes_of m ram wall)

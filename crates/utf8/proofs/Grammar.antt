@@ -27,6 +27,7 @@ good_forms (f ∷ fs) = both (good_form f) (good_forms fs)
 
 good : {f : List Range} (fs : List (List Range)) → good_forms fs ≡ true → Memᴰ f fs → good_form f ≡ true
 unfolding good_forms
+good {f = f} [] t x = elim x [ ]
 good (g ∷ fs) t (Memᴰ.head e) = subst (λ (h : List Range). good_form h ≡ true) (sym e) (both_left (good_form g) (good_forms fs) t)
 good (g ∷ fs) t (Memᴰ.tail m) = good fs (both_right (good_form g) (good_forms fs) t) m
 

@@ -1,0 +1,15 @@
+-- `bytes_le::write_u64` meets its contract: two of half the width.
+use mathlib.Core.Path.{ap, ◌∙◌}
+use mathlib.Core.List.{List}
+use Prim.Native.Nat.{ℕ, ◌+◌, ◌/◌}
+use Rattle.bytes_le.specs.Little.{put_at}
+use Rattle.bytes_le.proofs.Laws.{put_join}
+use Rattle.bytes_le.proofs.write_u64.Goals as goal
+
+pub returns : goal.returns
+returns c =
+    let a = c.args in
+    c.write_u32-2.ensures
+    ∙ ap (λ (x : List ℕ). put_at 4 x (a.at + 4) (a.n / 4294967296))
+    c.write_u32.ensures
+    ∙ put_join 4 4 a.bytes.now a.at a.n

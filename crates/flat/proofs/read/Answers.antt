@@ -1,0 +1,49 @@
+-- `flat::read` meets its contract: fit or not, and by the verdict.
+use borrow.Author.Rules.{rules}
+use mathlib.Core.Path.{ap, ◌∙◌}
+use Rattle.bus.specs.declared.ReadAnswer.TheVariants.{Byte}
+use Rattle.flat.proofs.Laws.{unfit_read, fit_cart_lem, area_lent, fit_read}
+use mathlib.Core.Bool.{not}
+use Rattle.flat.proofs.read.Goals as goal
+
+pub returns-then-not-fit : goal.returns-then-not-fit
+returns-then-not-fit c =
+    let a = c.args in
+    unfit_read a.s.now a.image.now a.ram.now a.addr c.read_u8-kind.ensures c.fit.ensures (ap not c.if-not-fit.true)
+
+pub rom_byte-requires : goal.rom_byte-requires
+rom_byte-requires c =
+    let a = c.args in
+    record {
+      in_bounds = search rules;
+      kind_value = fit_cart_lem a.s.now c.read_u8-kind.ensures c.fit.ensures (ap not c.if-not-fit.false);
+    }
+
+pub ram_byte-requires : goal.ram_byte-requires
+ram_byte-requires c =
+    let a = c.args in
+    record {
+      in_bounds = search rules;
+      ram_len = area_lent a.s.now a.image.now a.ram.now a.addr c.read_u8-kind.ensures c.fit.ensures (ap not c.if-not-fit.false)
+          c.lent.ensures c.decide.ensures c.in-Ram.is;
+    }
+
+pub returns-in-Rom : goal.returns-in-Rom
+returns-in-Rom c =
+    let a = c.args in
+    ap Byte c.rom_byte.ensures
+    ∙ fit_read a.s.now a.image.now a.ram.now a.addr c.read_u8-kind.ensures c.fit.ensures (ap not c.if-not-fit.false)
+    c.lent.ensures c.decide.ensures c.in-Rom.is
+
+pub returns-in-Ram : goal.returns-in-Ram
+returns-in-Ram c =
+    let a = c.args in
+    ap Byte c.ram_byte.ensures
+    ∙ fit_read a.s.now a.image.now a.ram.now a.addr c.read_u8-kind.ensures c.fit.ensures (ap not c.if-not-fit.false)
+    c.lent.ensures c.decide.ensures c.in-Ram.is
+
+pub returns-in-Refuse : goal.returns-in-Refuse
+returns-in-Refuse c =
+    let a = c.args in
+    fit_read a.s.now a.image.now a.ram.now a.addr c.read_u8-kind.ensures c.fit.ensures (ap not c.if-not-fit.false)
+    c.lent.ensures c.decide.ensures c.in-Refuse.is

@@ -1,0 +1,28 @@
+-- `header::ram_size` meets its contract: by the code.
+use Rattle.header.proofs.SizeLaws.{ram_last}
+use Rattle.header.proofs.ram_size.Goals as goal
+
+pub returns-in-0 : goal.returns-in-0
+returns-in-0 c =
+    rw c.in-0.is
+
+pub returns-in-1 : goal.returns-in-1
+returns-in-1 c =
+    rw c.in-1.is
+
+pub returns-in-2 : goal.returns-in-2
+returns-in-2 c =
+    rw c.in-2.is
+
+pub returns-in-3 : goal.returns-in-3
+returns-in-3 c =
+    rw c.in-3.is
+
+pub returns-in-4 : goal.returns-in-4
+returns-in-4 c =
+    rw c.in-4.is
+
+pub returns-in_default : goal.returns-in_default
+returns-in_default c =
+    let m = c.in_default.in_default-own.rest in
+    ram_last c.args.code c.requires m.0.0.0.0.1 m.0.0.0.1 m.0.0.1 m.0.1 m.1

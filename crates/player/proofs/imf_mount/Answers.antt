@@ -1,0 +1,20 @@
+-- `player::imf_mount` meets its contract: the mounting, by its answer.
+use mathlib.Core.Path.{sym, ap, ◌∙◌}
+use Rattle.player.specs.Bus.{mount_number, mount_state, mount_of, state_mounted}
+use Rattle.player.proofs.imf_mount.Goals as goal
+
+pub returns-in-To : goal.returns-in-To
+unfolding mount_of state_mounted
+returns-in-To c =
+    let m = c.mount.ensures in
+    let a = c.args in
+    let g = sym c.in-To.is ∙ m.value in
+    (ap mount_number g, (c.encode.ensures ∙ ap (mount_state a.state.now) g, m.ram_after))
+
+pub returns-in-Refuse : goal.returns-in-Refuse
+unfolding mount_of state_mounted
+returns-in-Refuse c =
+    let m = c.mount.ensures in
+    let a = c.args in
+    let g = sym c.in-Refuse.is ∙ m.value in
+    (c.number.ensures ∙ ap mount_number g, (ap (mount_state a.state.now) g, m.ram_after))

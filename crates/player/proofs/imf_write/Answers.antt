@@ -1,0 +1,17 @@
+-- `player::imf_write` meets its contract: the write to the bytes, its answer as a number.
+use mathlib.Core.Path.{◌∙◌}
+use Rattle.player.proofs.Laws.{write_number_lem}
+use Rattle.player.proofs.imf_write.Goals as goal
+
+pub returns-in-Done : goal.returns-in-Done
+returns-in-Done c =
+    let a = c.args in
+    (write_number_lem a.state.now a.ram.now a.addr a.byte c.write.ensures.value c.in-Done.is, c.write.ensures.s_after)
+
+pub returns-in-Refuse : goal.returns-in-Refuse
+returns-in-Refuse c =
+    let a = c.args in (
+      c.number.ensures
+          ∙ write_number_lem a.state.now a.ram.now a.addr a.byte c.write.ensures.value c.in-Refuse.is,
+      c.write.ensures.s_after,
+    )

@@ -1,0 +1,26 @@
+-- `replay_program::on_area` meets its contract.
+use native.Mathlib.Omega.{arith}
+use borrow.Author.Rules.{rules}
+use Rattle.replay_program.proofs.Laws.{on_mounted, on_refused, number_fits}
+use Rattle.replay_program.proofs.on_area.Goals as goal
+
+pub put_numbered-requires : goal.put_numbered-requires
+put_numbered-requires c =
+    omega (arith, number_fits c.number.result c.args.trace.now c.args.room.now (search rules) c.requires)
+
+pub returns-in-To : goal.returns-in-To
+returns-in-To c =
+    let a = c.args in
+    let d = c.run-reached.ensures in
+    let m = c.mount.ensures in
+    let x = on_mounted a.image.now a.area.now a.trace.now m.value c.in-To.is m.ram_after d.ram_after d.put.0 in
+    (x.0, (x.1, d.put.1))
+
+pub returns-in-Refuse : goal.returns-in-Refuse
+returns-in-Refuse c =
+    let p = c.put_numbered.ensures in
+    let m = c.mount.ensures in
+    let n = c.number in
+    let x = on_refused c.args.image.now c.args.area.now c.args.trace.now m.value c.in-Refuse.is m.ram_after n.ensures p in
+    let l = number_fits n.result c.args.trace.now c.args.room.now (search rules) c.requires in
+    (x.0, (x.1, omega (arith, l, p.behind)))

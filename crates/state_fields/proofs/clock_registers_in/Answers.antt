@@ -1,0 +1,8 @@
+-- `state_fields::clock_registers_in` meets its contract: field by field.
+use Rattle.state_fields.proofs.Laws.{registers_of_lem}
+use Rattle.state_fields.proofs.clock_registers_in.Goals as goal
+
+pub returns : goal.returns
+returns c =
+    registers_of_lem c.read_u8.ensures c.read_u8-2.ensures c.read_u8-3.ensures
+    c.read_u16.ensures c.flag_at.ensures c.flag_at-2.ensures

@@ -1,0 +1,14 @@
+-- `state_fields::put_clock_registers` meets its contract: the fields in their order.
+use Rattle.state_fields.specs.Fields.{stored}
+use Rattle.state_fields.proofs.Laws.{put_on}
+use Rattle.state_fields.proofs.put_clock_registers.Goals as goal
+
+pub returns : goal.returns
+unfolding stored
+returns c =
+    put_on 1 _ _
+    (put_on 1 _ _
+    (put_on 2 _ _
+    (put_on 1 _ _ (put_on 1 _ _ c.write_u8.ensures c.write_u8-2.ensures) c.write_u8-3.ensures) c.write_u16.ensures)
+    c.put_flag.ensures)
+    c.put_flag-2.ensures
