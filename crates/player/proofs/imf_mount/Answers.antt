@@ -9,7 +9,11 @@ returns-in-To c =
     let m = c.mount.ensures in
     let a = c.args in
     let g = sym c.in-To.is ∙ m.value in
-    (ap mount_number g, (c.encode.ensures ∙ ap (mount_state a.state.now) g, m.ram_after))
+    record {
+      value = ap mount_number g;
+      state_after = c.encode.ensures ∙ ap (mount_state a.state.now) g;
+      ram_after = m.ram_after;
+    }
 
 pub returns-in-Refuse : goal.returns-in-Refuse
 unfolding mount_of state_mounted
@@ -17,4 +21,8 @@ returns-in-Refuse c =
     let m = c.mount.ensures in
     let a = c.args in
     let g = sym c.in-Refuse.is ∙ m.value in
-    (c.number.ensures ∙ ap mount_number g, (ap (mount_state a.state.now) g, m.ram_after))
+    record {
+      value = c.number.ensures ∙ ap mount_number g;
+      state_after = ap (mount_state a.state.now) g;
+      ram_after = m.ram_after;
+    }

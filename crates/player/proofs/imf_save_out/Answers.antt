@@ -16,15 +16,14 @@ returns-in-To c =
     let n = a.size.now in
     let e = c.decode.ensures in
     let g = c.in-To.is in
-    let w = c.save.ensures in (
-      c.take_saved.ensures.value ∙ ap saved_number w.value
-          ∙ on_cartridge (λ k. saved_number (below.save_of k r (length room) a.wall)) 13 s e g,
-      (
-        w.room_after ∙ on_cartridge (λ k. below.room_after k r room a.wall) room s e g,
-        c.take_saved.ensures.size_after ∙ ap (saved_size n) w.value
-            ∙ on_cartridge (λ k. saved_size n (below.save_of k r (length room) a.wall)) n s e g,
-      ),
-    )
+    let w = c.save.ensures in
+    record {
+      value = c.take_saved.ensures.value ∙ ap saved_number w.value
+          ∙ on_cartridge (λ k. saved_number (below.save_of k r (length room) a.wall)) 13 s e g;
+      room_after = w.room_after ∙ on_cartridge (λ k. below.room_after k r room a.wall) room s e g;
+      size_after = c.take_saved.ensures.size_after ∙ ap (saved_size n) w.value
+          ∙ on_cartridge (λ k. saved_size n (below.save_of k r (length room) a.wall)) n s e g;
+    }
 
 pub returns-in-NoState : goal.returns-in-NoState
 unfolding save_of size_saved room_saved
@@ -35,10 +34,9 @@ returns-in-NoState c =
     let room = a.room.now in
     let n = a.size.now in
     let e = c.decode.ensures in
-    let g = c.in-NoState.is in (
-      on_none (λ k. saved_number (below.save_of k r (length room) a.wall)) 13 s e g,
-      (
-        on_none (λ k. below.room_after k r room a.wall) room s e g,
-        on_none (λ k. saved_size n (below.save_of k r (length room) a.wall)) n s e g,
-      ),
-    )
+    let g = c.in-NoState.is in
+    record {
+      value = on_none (λ k. saved_number (below.save_of k r (length room) a.wall)) 13 s e g;
+      room_after = on_none (λ k. below.room_after k r room a.wall) room s e g;
+      size_after = on_none (λ k. saved_size n (below.save_of k r (length room) a.wall)) n s e g;
+    }

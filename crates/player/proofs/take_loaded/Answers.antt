@@ -7,16 +7,28 @@ pub returns-in-Whole : goal.returns-in-Whole
 returns-in-Whole c =
     let g = sym c.in-Whole.is in
     let a = c.args in
-    (ap loaded_number g, (c.encode.ensures ∙ ap (loaded_state a.state.now) g, ap (loaded_clock a.clock.now) g))
+    record {
+      value = ap loaded_number g;
+      state_after = c.encode.ensures ∙ ap (loaded_state a.state.now) g;
+      clock_after = ap (loaded_clock a.clock.now) g;
+    }
 
 pub returns-in-RamOnly : goal.returns-in-RamOnly
 returns-in-RamOnly c =
     let g = sym c.in-RamOnly.is in
     let a = c.args in
-    (ap loaded_number g, (ap (loaded_state a.state.now) g, ap (loaded_clock a.clock.now) g))
+    record {
+      value = ap loaded_number g;
+      state_after = ap (loaded_state a.state.now) g;
+      clock_after = ap (loaded_clock a.clock.now) g;
+    }
 
 pub returns-in-Refuse : goal.returns-in-Refuse
 returns-in-Refuse c =
     let g = sym c.in-Refuse.is in
     let a = c.args in
-    (c.number.ensures ∙ ap loaded_number g, (ap (loaded_state a.state.now) g, ap (loaded_clock a.clock.now) g))
+    record {
+      value = c.number.ensures ∙ ap loaded_number g;
+      state_after = ap (loaded_state a.state.now) g;
+      clock_after = ap (loaded_clock a.clock.now) g;
+    }

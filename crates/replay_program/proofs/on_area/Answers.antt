@@ -13,8 +13,8 @@ returns-in-To c =
     let a = c.args in
     let d = c.run-reached.ensures in
     let m = c.mount.ensures in
-    let x = on_mounted a.image.now a.area.now a.trace.now m.value c.in-To.is m.ram_after d.ram_after d.put.0 in
-    (x.0, (x.1, d.put.1))
+    let x = on_mounted a.image.now a.area.now a.trace.now m.value c.in-To.is m.ram_after d.ram_after d.put in
+    record { put = x.0; area_after = x.1; upper_bound = d.end_in_bounds }
 
 pub returns-in-Refuse : goal.returns-in-Refuse
 returns-in-Refuse c =
@@ -23,4 +23,4 @@ returns-in-Refuse c =
     let n = c.number in
     let x = on_refused c.args.image.now c.args.area.now c.args.trace.now m.value c.in-Refuse.is m.ram_after n.ensures p in
     let l = number_fits n.result c.args.trace.now c.args.room.now (search rules) c.requires in
-    (x.0, (x.1, omega (arith, l, p.behind)))
+    record { put = x.0; area_after = x.1; upper_bound = omega (arith, l, p.behind) }

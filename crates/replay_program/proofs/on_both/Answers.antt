@@ -13,5 +13,5 @@ pub returns : goal.returns
 returns c =
     let d = c.on_area.ensures in
     let n = c.lent-n in
-    let x = on_front c.args.image.now c.args.trace.now c.args.ram.now n.ensures.0 (search rules) d.put d.area_after.0 in
-    (x.0, (x.1, d.area_after.1))
+    let x = on_front c.args.image.now c.args.trace.now c.args.ram.now n.ensures.value (search rules) d.put d.area_after in
+    record { put = x.0; ram_after = x.1; upper_bound = d.upper_bound }

@@ -15,7 +15,7 @@ returns-then-not_read c =
     let t = sym c.not_read.ensures ∙ c.if-not_read.true in
     let l : 2 ≤ length a.room.now = search rules in
     let x = wrote a.rom a.image.now a.records a.trace.now t refl p (omega (arith, l, p.behind)) in
-    (x.0, (x.1, ram_by a.rom a.image.now a.records a.trace.now t refl a.ram.now refl))
+    record { value = x.0; room_after = x.1; ram_after = ram_by a.rom a.image.now a.records a.trace.now t refl a.ram.now refl }
 
 pub returns-then-not_read-2 : goal.returns-then-not_read-2
 returns-then-not_read-2 c =
@@ -25,7 +25,7 @@ returns-then-not_read-2 c =
     let u = sym c.not_read-2.ensures ∙ c.if-not_read-2.true in
     let l : 2 ≤ length a.room.now = search rules in
     let x = wrote a.rom a.image.now a.records a.trace.now t u p (omega (arith, l, p.behind)) in
-    (x.0, (x.1, ram_by a.rom a.image.now a.records a.trace.now t u a.ram.now refl))
+    record { value = x.0; room_after = x.1; ram_after = ram_by a.rom a.image.now a.records a.trace.now t u a.ram.now refl }
 
 pub on_both-requires : goal.on_both-requires
 on_both-requires c =
@@ -45,5 +45,5 @@ returns c =
     let d = c.on_both.ensures in
     let t = sym c.not_read.ensures ∙ c.if-not_read.false in
     let u = sym c.not_read-2.ensures ∙ c.if-not_read-2.false in
-    let x = wrote a.rom a.image.now a.records a.trace.now t u d.put d.ram_after.1 in
-    (x.0, (x.1, ram_by a.rom a.image.now a.records a.trace.now t u a.ram.now d.ram_after.0))
+    let x = wrote a.rom a.image.now a.records a.trace.now t u d.put d.upper_bound in
+    record { value = x.0; room_after = x.1; ram_after = ram_by a.rom a.image.now a.records a.trace.now t u a.ram.now d.ram_after }
