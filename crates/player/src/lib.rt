@@ -93,8 +93,7 @@ fn facts_of(found: Facts) -> [u32; 12]
 
 // What the header of an image says: kind, ROM banks, the header's RAM size, the RAM area to lend, battery, timer, rumble, colour, and
 // the title's place and length in the image.
-#[unsafe(no_mangle)]
-pub extern "C" fn imf_header(image: &[u8], facts: &mut [u32; 12]) -> u32
+pub fn imf_header(image: &[u8], facts: &mut [u32; 12]) -> u32
     ensures value { result ≡ header_of image.now }
     ensures facts_after { facts.new ≡ facts_after image.now facts.old }
 {
@@ -108,8 +107,7 @@ pub extern "C" fn imf_header(image: &[u8], facts: &mut [u32; 12]) -> u32
 }
 
 // Mounts an image: its state, and a zeroed RAM area.
-#[unsafe(no_mangle)]
-pub extern "C" fn imf_mount(state: &mut [u8; 64], image: &[u8], ram: &mut [u8], wall: u64) -> u32
+pub fn imf_mount(state: &mut [u8; 64], image: &[u8], ram: &mut [u8], wall: u64) -> u32
     ensures value { result ≡ mount_of image.now ram.old wall }
     ensures state_after { state.new ≡ state_mounted state.old image.now ram.old wall }
     ensures ram_after { ram.new ≡ mounting.area_after image.now ram.old wall }
@@ -133,16 +131,14 @@ fn read_number(answer: ReadAnswer) -> u32
 }
 
 // What an address reads: the byte, or 0x100 and the number.
-#[unsafe(no_mangle)]
-pub extern "C" fn imf_read(state: &[u8; 64], image: &[u8], ram: &[u8], addr: u16) -> u32
+pub fn imf_read(state: &[u8; 64], image: &[u8], ram: &[u8], addr: u16) -> u32
     ensures { result ≡ read_of state.now image.now ram.now addr }
 {
     read_number(flat::read(state, image, ram, addr))
 }
 
 // A byte written to an address.
-#[unsafe(no_mangle)]
-pub extern "C" fn imf_write(state: &mut [u8; 64], ram: &mut [u8], addr: u16, byte: u8) -> u32
+pub fn imf_write(state: &mut [u8; 64], ram: &mut [u8], addr: u16, byte: u8) -> u32
     ensures value { result ≡ write_of state.old ram.old addr byte }
     ensures state_after { state.new ≡ state_written state.old ram.old addr byte }
     ensures ram_after { ram.new ≡ area_written state.old ram.old addr byte }
@@ -154,8 +150,7 @@ pub extern "C" fn imf_write(state: &mut [u8; 64], ram: &mut [u8], addr: u16, byt
 }
 
 // n mapper clocks on.
-#[unsafe(no_mangle)]
-pub extern "C" fn imf_advance(state: &mut [u8; 64], n: u64) -> u32
+pub fn imf_advance(state: &mut [u8; 64], n: u64) -> u32
     ensures value { result ≡ advance_of state.old n }
     ensures state_after { state.new ≡ state_advanced state.old n }
 {
@@ -179,8 +174,7 @@ fn take_room(size: &mut u64, answer: Room) -> u32
 }
 
 // How many bytes a save takes.
-#[unsafe(no_mangle)]
-pub extern "C" fn imf_save_size(state: &[u8; 64], size: &mut u64) -> u32
+pub fn imf_save_size(state: &[u8; 64], size: &mut u64) -> u32
     ensures value { result ≡ size_of state.now }
     ensures size_after { size.new ≡ size_asked state.now size.old }
 {
@@ -204,14 +198,7 @@ fn take_saved(size: &mut u64, answer: Saved) -> u32
 }
 
 // Writes the save at this wall time to the start of the room, and how many bytes it is.
-#[unsafe(no_mangle)]
-pub extern "C" fn imf_save_out(
-    state: &[u8; 64],
-    ram: &[u8],
-    room: &mut [u8],
-    wall: u64,
-    size: &mut u64,
-) -> u32
+pub fn imf_save_out(state: &[u8; 64], ram: &[u8], room: &mut [u8], wall: u64, size: &mut u64) -> u32
     ensures value { result ≡ save_of state.now ram.now (length room.old) wall }
     ensures room_after { room.new ≡ room_saved state.now ram.now room.old wall }
     ensures size_after { size.new ≡ size_saved state.now ram.now (length room.old) wall size.old }
@@ -242,8 +229,7 @@ fn take_loaded(state: &mut [u8; 64], clock: &mut u32, answer: Loaded) -> u32
 }
 
 // Reads a save at this wall time, and says whether the clock came with it: 1, or 0 where only the RAM did.
-#[unsafe(no_mangle)]
-pub extern "C" fn imf_save_in(
+pub fn imf_save_in(
     state: &mut [u8; 64],
     ram: &mut [u8],
     save: &[u8],
@@ -275,8 +261,7 @@ fn take_windows(windows: &mut [u32; 6], answer: Asked) -> u32
 }
 
 // Where the windows stand now: the places that 0x0000, 0x4000 and 0xA000 show, the mask of the last, and how it is mapped.
-#[unsafe(no_mangle)]
-pub extern "C" fn imf_windows(state: &[u8; 64], windows: &mut [u32; 6]) -> u32
+pub fn imf_windows(state: &[u8; 64], windows: &mut [u32; 6]) -> u32
     ensures value { result ≡ windows_number state.now }
     ensures windows_after { windows.new ≡ windows_after state.now windows.old }
 {
@@ -306,8 +291,7 @@ fn rom_start(windows: &[u32; 6], addr: u16) -> u32
 
 // What an address reads through windows: the byte, 0x10F outside, or 0x200 where the state must be asked. Most reads are of ROM, and
 // are answered first.
-#[unsafe(no_mangle)]
-pub extern "C" fn imf_window_read(windows: &[u32; 6], image: &[u8], ram: &[u8], addr: u16) -> u32
+pub fn imf_window_read(windows: &[u32; 6], image: &[u8], ram: &[u8], addr: u16) -> u32
     ensures { result ≡ window_read windows.now image.now ram.now addr }
 {
     if addr < 0x8000 {
@@ -321,8 +305,7 @@ pub extern "C" fn imf_window_read(windows: &[u32; 6], image: &[u8], ram: &[u8], 
 }
 
 // A byte written to the RAM window: 0, 15 outside, or 0x200 where it is the state's to take.
-#[unsafe(no_mangle)]
-pub extern "C" fn imf_window_write(windows: &[u32; 6], ram: &mut [u8], addr: u16, byte: u8) -> u32
+pub fn imf_window_write(windows: &[u32; 6], ram: &mut [u8], addr: u16, byte: u8) -> u32
     ensures value { result ≡ window_write windows.now addr }
     ensures ram_after { ram.new ≡ area_through windows.now ram.old addr byte }
 {
