@@ -3,15 +3,6 @@
 # The folder with `cart.rom` and `cart.trace` that `make replay` runs on.
 DIR ?= crates/replay/data
 
-# The prover would hand memory back to the system and ask for it anew, all through a check; where it keeps it, a check takes a tenth less.
-export MIMALLOC_PURGE_DELAY ?= -1
-
-# Three provers at a time keep two cores busy: `rt` goes in rounds that wait for their slowest.
-export RT_JOBS ?= 3
-
-# Temporary files, of which a check writes thousands: in memory where there is room.
-export TMPDIR := $(shell tools/scratch)
-
 # The processor that what links the library is made for: x86_64 or aarch64, this machine's own where none is named.
 export TARGET
 PROCESSOR := $(or $(TARGET),$(shell uname -m))
@@ -21,7 +12,7 @@ LIBRARY := $(if $(PLAYER_LIB),$(abspath $(PLAYER_LIB)),$(CURDIR)/target/library/
 PLAYER := $(CURDIR)/target/player/$(PROCESSOR)
 CARGO = player/cargo "$(LIBRARY)" "$(PLAYER)"
 
-# All tests, from nothing. The last line is 'N passed, M failed'.
+# All tests, a plain `rt ci` first. The last line is 'N passed, M failed'.
 test: kit
 	@TARGET= tools/test
 
@@ -29,9 +20,8 @@ test: kit
 quick: kit
 	@TARGET= tools/quick
 
-# The wrong programs of CRATE, or of all crates, once they are proved as they stand.
+# The wrong programs of CRATE, or of all crates.
 wrong: kit
-	@tools/proved $(CRATE)
 	@tools/wrong --folder must-fail --folder wrong $(CRATE)
 
 # What is made from refusals.txt and VERSION, in the C header, the Rust crate and the documents.
@@ -45,8 +35,7 @@ times:
 # The replay program, proved and built where that is not yet done, on a folder's cartridge and trace.
 replay: kit
 	@echo "Proving and building the replay program: minutes the first time, then at once." >&2
-	@tools/proved replay >&2
-	@tools/run-program "$(CURDIR)/target/bin/replay" "$(DIR)"
+	@tools/run-program replay "$(DIR)"
 
 # The library that players link, proved and built, and what links it: the Rust crate with its example and its pages, and the C test.
 player: tools player-library
