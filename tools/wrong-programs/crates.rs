@@ -2,52 +2,52 @@
 
 use std::collections::{BTreeMap, BTreeSet};
 
-/// Each crate with what its own line names, in that order, and with all that it stands on: these, and what they stand on.
+/// Each crate with its line, and with all that it stands on: what its line names, and what these stand on.
 pub struct Crates {
-    named: BTreeMap<String, Vec<String>>,
+    lines: BTreeMap<String, String>,
     below: BTreeMap<String, BTreeSet<String>>,
 }
 
 impl Crates {
-    /// By the lines `NAME: DEP DEP` of crates.txt; what stands behind `#` is for people.
+    /// By the lines `NAME: DEP DEP` and `NAME staticlib: DEP DEP` of crates.txt; what stands behind `#` is for people.
     pub fn read(text: &str) -> Crates {
-        let lines = text.lines().map(|line| line.split('#').next().unwrap_or(""));
-        let pairs = lines.filter_map(|line| line.split_once(':'));
-        let words = |used: &str| used.split_whitespace().map(str::to_string).collect();
-        let named: BTreeMap<String, Vec<String>> = pairs.map(|(name, used)| (name.trim().to_string(), words(used))).collect();
-        let below = named.keys().map(|name| (name.clone(), reached(&named, name))).collect();
-        Crates { named, below }
+        let rows = text.lines().map(|line| line.split('#').next().unwrap_or("").trim()).filter(|line| line.contains(':'));
+        let lines: BTreeMap<String, String> = rows.map(|line| (name_of(line), line.to_string())).collect();
+        let below = lines.keys().map(|name| (name.clone(), reached(&lines, name))).collect();
+        Crates { lines, below }
     }
 
     pub fn names(&self) -> Vec<String> {
-        self.named.keys().cloned().collect()
-    }
-
-    /// What the crate's own line names, and its files can name.
-    pub fn named_by(&self, name: &str) -> impl Iterator<Item = &String> {
-        self.named.get(name).into_iter().flatten()
+        self.lines.keys().cloned().collect()
     }
 
     pub fn below(&self, name: &str) -> impl Iterator<Item = &String> {
         self.below.get(name).into_iter().flatten()
     }
 
-    /// What is to be proved anew below a crate where these have changed: they, and what stands on one of them. Each comes behind all that it
-    /// stands on, since it stands on more than any of these does.
-    pub fn anew(&self, name: &str, changed: &BTreeSet<String>) -> Vec<String> {
-        let is_anew = |library: &&String| changed.contains(*library) || self.below(library).any(|used| changed.contains(used));
-        let mut found: Vec<String> = self.below(name).filter(is_anew).cloned().collect();
-        found.sort_by_key(|library| self.below(library).count());
-        found
+    /// The crates and all that is below them.
+    pub fn with_below<'a>(&self, named: impl Iterator<Item = &'a String>) -> BTreeSet<String> {
+        let crates: Vec<&String> = named.collect();
+        crates.iter().flat_map(|name| self.below(name)).chain(crates.iter().copied()).filter(|name| self.lines.contains_key(*name)).cloned().collect()
+    }
+
+    /// A crates.txt of these crates alone.
+    pub fn listed(&self, crates: &BTreeSet<String>) -> String {
+        crates.iter().filter_map(|name| self.lines.get(name)).map(|line| format!("{line}\n")).collect()
     }
 }
 
-fn reached(named: &BTreeMap<String, Vec<String>>, name: &str) -> BTreeSet<String> {
+fn name_of(line: &str) -> String {
+    line.split([':', ' ']).next().unwrap_or("").to_string()
+}
+
+fn reached(lines: &BTreeMap<String, String>, name: &str) -> BTreeSet<String> {
     let mut found = BTreeSet::new();
     let mut open = vec![name];
     while let Some(next) = open.pop() {
-        for used in named.get(next).into_iter().flatten() {
-            if found.insert(used.clone()) {
+        let used = lines.get(next).and_then(|line| line.split_once(':')).map_or("", |(_, used)| used);
+        for used in used.split_whitespace() {
+            if found.insert(used.to_string()) {
                 open.push(used);
             }
         }
@@ -60,14 +60,10 @@ mod tests {
     use super::*;
 
     const LISTED: &str = "## ground: a heading\n# words: with a colon\nwindow: bank # a comment\nfacts:\nbank: facts\n\n## bus, on ground: next\n\
-                          bus: window clock\n\nclock: facts\nboard: bus";
+                          bus: window clock\n\nclock: facts io\nboard staticlib: bus";
 
     fn below(name: &str) -> Vec<String> {
         Crates::read(LISTED).below(name).cloned().collect()
-    }
-
-    fn anew(name: &str, changed: &[&str]) -> Vec<String> {
-        Crates::read(LISTED).anew(name, &changed.iter().map(|name| name.to_string()).collect())
     }
 
     #[test]
@@ -78,29 +74,16 @@ mod tests {
     }
 
     #[test]
-    fn a_line_names_what_stands_in_it_in_its_order() {
-        let crates = Crates::read(LISTED);
-        assert_eq!(crates.named_by("bus").collect::<Vec<_>>(), ["window", "clock"]);
-        assert_eq!(crates.named_by("board").collect::<Vec<_>>(), ["bus"]);
-    }
-
-    #[test]
     fn a_crate_stands_on_what_those_below_it_stand_on() {
         assert_eq!(below("window"), ["bank", "facts"]);
-        assert_eq!(below("board"), ["bank", "bus", "clock", "facts", "window"]);
+        assert_eq!(below("board"), ["bank", "bus", "clock", "facts", "io", "window"]);
     }
 
     #[test]
-    fn what_stands_between_is_proved_anew_from_below() {
-        assert_eq!(anew("board", &["bank"]), ["bank", "window", "bus"]);
-        assert_eq!(anew("board", &["bus", "facts"]), ["facts", "bank", "clock", "window", "bus"]);
-        assert_eq!(anew("board", &["bus"]), ["bus"]);
-    }
-
-    #[test]
-    fn beside_and_above_nothing_is_proved_anew() {
-        assert_eq!(anew("window", &["bank"]), ["bank"]);
-        assert!(anew("window", &["clock"]).is_empty());
-        assert!(anew("window", &["window"]).is_empty());
+    fn a_list_of_some_crates_has_their_lines() {
+        let crates = Crates::read(LISTED);
+        let some = crates.with_below(["window".to_string(), "clock".to_string()].iter());
+        assert_eq!(crates.listed(&some), "bank: facts\nclock: facts io\nfacts:\nwindow: bank\n");
+        assert_eq!(crates.listed(&BTreeSet::from(["board".to_string()])), "board staticlib: bus\n");
     }
 }

@@ -2,7 +2,7 @@
 //! `file: ../CRATE/PATH` one of a crate below it; each pair of lines `old: TEXT` and `new: TEXT` behind it exchanges a text that stands there
 //! exactly once. Every other line is a comment.
 
-use std::collections::BTreeSet;
+use std::collections::{BTreeMap, BTreeSet};
 use std::fs;
 use std::path::Path;
 
@@ -62,15 +62,17 @@ pub fn changed(changes: &[Change]) -> BTreeSet<String> {
     changes.iter().map(|change| change.of.clone()).collect()
 }
 
-/// Makes those of the changes that are of the crate `of`, which stands in `tree`.
-pub fn apply(changes: &[Change], of: &str, tree: &Path) -> Result<(), String> {
+/// The files of the crate `of`, which stands in `tree`, as those of the changes that are its own leave them.
+pub fn apply(changes: &[Change], of: &str, tree: &Path) -> Result<BTreeMap<String, String>, String> {
+    let mut files = BTreeMap::new();
     for change in changes.iter().filter(|change| change.of == of) {
-        let path = tree.join(&change.file);
-        let text = fs::read_to_string(&path).map_err(|why| format!("{}: {why}", change.file))?;
-        let text = exchanged(&text, change)?;
-        fs::write(&path, text).map_err(|why| format!("{}: {why}", change.file))?;
+        let text = match files.remove(&change.file) {
+            Some(text) => text,
+            None => fs::read_to_string(tree.join(&change.file)).map_err(|why| format!("{}: {why}", change.file))?,
+        };
+        files.insert(change.file.clone(), exchanged(&text, change)?);
     }
-    Ok(())
+    Ok(files)
 }
 
 fn exchanged(text: &str, change: &Change) -> Result<String, String> {

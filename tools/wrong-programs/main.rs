@@ -1,17 +1,16 @@
-//! usage: wrong-programs [--jobs N] [--folder NAME].. [--judge FOLDER] [CRATE..]     at the repository's root, after `rt check` or `rt ci`
+//! usage: wrong-programs [--jobs N] [--folder NAME].. [--judge LOG] [CRATE..]     at the repository's root
 //!
-//! Tries the wrong programs of the crates, or of all crates: each file crates/CRATE/wrong/*.edit (or of the folders named) makes a copy of
-//! the crate wrong, and the prover must refuse it at a fact. The crate is first checked as it stands, over the modules that `rt` has
-//! proved; each edit then goes over a copy of that store, so that only what it touches is checked again. An edit may change crates below its
-//! own too: these and those between must all be proved with it, before its own is refused. One line for each edit; the last line is
-//! 'N passed, M failed'. With --judge, what `rt` has tried itself and left in that folder is held to the same: refused at a fact. What the
-//! prover said stands in target/wrong-programs/CRATE/EDIT.log, and of a crate below in EDIT-BELOW.log; copies stand in TMPDIR meanwhile.
+//! Tries the wrong programs of the crates, or of all crates: each file crates/CRATE/wrong/*.edit (or of the folders named) makes the crate wrong, and
+//! the prover must refuse it at a fact. `rt ci` tries them, in a copy of the crates that has them for its must-fail edits; what it has proved
+//! or tried before, of the same files, it does not prove or try again. An edit may change crates below its own too: `rt ci` runs in a copy of its
+//! own, where these and those between must all be proved with it, and its own be refused. One line for each edit; the last line is
+//! 'N passed, M failed'. With --judge, what `rt ci` has tried itself, by the log that it left, is held to the same: refused at a fact. What is
+//! said stands in target/wrong-programs; copies stand in TMPDIR meanwhile.
 
 mod crates;
 mod edit;
 mod folder;
 mod prover;
-mod queue;
 mod run;
 mod verdict;
 

@@ -1,17 +1,15 @@
-//! A run: every wrong program of some crates, tried by as many hands as asked.
+//! A run: every wrong program of some crates, tried by `rt ci` in copies of the repository.
 
+use crate::crates::Crates;
 use crate::edit::{self, Change};
-use crate::folder::{copied, weight};
-use crate::prover::{Prover, Trees};
-use crate::queue::{Queue, Task};
+use crate::folder;
+use crate::prover::Prover;
 use crate::verdict::{self, Verdict};
-use std::cmp::Reverse;
-use std::collections::BTreeMap;
+use std::collections::BTreeSet;
 use std::fs;
 use std::io;
 use std::path::{Path, PathBuf};
 use std::sync::Mutex;
-use std::time::Instant;
 
 fn lost(why: String) -> io::Error {
     io::Error::new(io::ErrorKind::NotFound, why)
@@ -24,17 +22,23 @@ pub struct Tally {
     pub failed: usize,
 }
 
+/// An edit of a crate, with its name, its text and its changes.
+struct Edit {
+    of: String,
+    label: String,
+    text: String,
+    changes: Vec<Change>,
+}
+
 pub struct Run {
     top: PathBuf,
     /// Where copies stand while they are needed, and where the logs stay.
     room: PathBuf,
     logs: PathBuf,
+    crates: Crates,
     prover: Prover,
-    store_name: String,
     folders: Vec<String>,
     tally: Mutex<Tally>,
-    /// How many edits of a crate are still to be tried over its store.
-    left: Mutex<BTreeMap<String, usize>>,
 }
 
 impl Drop for Run {
@@ -50,40 +54,48 @@ impl Run {
         let logs = top.join("target/wrong-programs");
         let _ = fs::remove_dir_all(&logs);
         fs::create_dir_all(&logs)?;
-        let prover = Prover::new(&top)?;
-        let mut run =
-            Run { top, room, logs, prover, store_name: String::new(), folders, tally: Mutex::default(), left: Mutex::default() };
-        run.store_name = run.prover.store_name(&run.room.join("empty"))?;
-        Ok(run)
+        let crates = Crates::read(&fs::read_to_string(top.join("crates.txt"))?);
+        Ok(Run { top, room, logs, crates, prover: Prover::new(), folders, tally: Mutex::default() })
     }
 
-    /// Tries all edits of these crates, or of all crates. What costs most begins, so that no hand is left alone with it at the end.
+    /// Tries all edits of these crates, or of all crates: first those that change their own crate alone, all in one copy, and then, as many at a time as
+    /// there are hands, those that change crates below it, each in a copy of its own.
     pub fn go(&self, named: &[String], hands: usize) -> io::Result<Tally> {
-        let mut crates = self.with_edits(named)?;
-        crates.sort_by_key(|name| {
-            let deepest = self.edits(name).iter().map(|edit| self.depth(name, edit)).max();
-            Reverse((deepest, weight(&self.prover.checked(name))))
-        });
-        let queue = Queue::new(crates);
+        let (mut own, mut others) = (Vec::new(), Vec::new());
+        for name in self.with_edits(named)? {
+            for path in self.edits(&name) {
+                match self.read(&name, &path) {
+                    Ok(edit) if edit::changed(&edit.changes).iter().all(|of| *of == name) => own.push(edit),
+                    Ok(edit) => others.push(edit),
+                    Err(why) => self.tell(&name, &label(&path), Err(format!("bad edit: {why}"))),
+                }
+            }
+        }
+        if !own.is_empty() {
+            self.try_own(&own)?;
+        }
+        others.reverse();
+        let left = Mutex::new(others);
+        let next = || left.lock().unwrap().pop();
         std::thread::scope(|scope| {
             for _ in 0..hands {
-                scope.spawn(|| self.work(&queue));
+                scope.spawn(|| {
+                    while let Some(edit) = next() {
+                        self.tell(&edit.of, &edit.label, self.tried(&edit));
+                    }
+                });
             }
         });
         Ok(std::mem::take(&mut self.tally.lock().unwrap()))
     }
 
-    /// Judges what `rt` has tried itself, in this folder, by what the prover said of it: only a refusal for no fact is told and counted.
-    pub fn judge(&self, tried: &Path) -> io::Result<()> {
-        let tried = &fs::canonicalize(tried)?;
-        for entry in fs::read_dir(tried)? {
-            let of_crate = entry?.path();
-            for entry in fs::read_dir(&of_crate)?.flatten().filter(|entry| entry.path().is_dir()) {
-                let tree = entry.path();
-                let said = fs::read(tree.join(".log"))?;
-                if let Err(why) = judged(verdict::of(Some(1), &String::from_utf8_lossy(&said), &tree.to_string_lossy())) {
-                    let what = tree.strip_prefix(tried).unwrap_or(&tree).display().to_string();
-                    self.tell(&what, 1, Err(why));
+    /// Judges what `rt ci` has tried itself, by its log: only what is refused for no fact is told and counted, since `rt` has counted the others.
+    pub fn judge(&self, log: &Path) -> io::Result<()> {
+        for line in fs::read_to_string(log)?.lines() {
+            if let Some((edit, said)) = line.strip_prefix("rt: must-fail ").and_then(|line| line.split_once(".edit: ")) {
+                let (name, label) = edit.split_once('/').unwrap_or((edit, ""));
+                if let Verdict::Unfit(why) = verdict::of_edit(said) {
+                    self.tell(name, label, judged(Verdict::Unfit(why)));
                 }
             }
         }
@@ -91,7 +103,7 @@ impl Run {
     }
 
     fn with_edits(&self, named: &[String]) -> io::Result<Vec<String>> {
-        let all = self.prover.crates.names();
+        let all = self.crates.names();
         if let Some(stranger) = named.iter().find(|name| !all.contains(name)) {
             return Err(lost(format!("crates.txt lists no crate '{stranger}'")));
         }
@@ -128,6 +140,7 @@ impl Run {
             }
             found.push(name);
         }
+        found.sort();
         Ok(found)
     }
 
@@ -135,173 +148,121 @@ impl Run {
         self.top.join("crates").join(name)
     }
 
-    /// The edits of a crate, as FOLDER/LABEL.
-    fn edits(&self, name: &str) -> Vec<String> {
-        let mut found = Vec::new();
-        for folder in &self.folders {
-            let files = fs::read_dir(self.crate_folder(name).join(folder)).into_iter().flatten().flatten();
-            let names = files.filter_map(|file| file.file_name().into_string().ok());
-            found.extend(names.filter_map(|file| file.strip_suffix(".edit").map(|label| format!("{folder}/{label}"))));
-        }
+    /// The files of a crate's edits.
+    fn edits(&self, name: &str) -> Vec<PathBuf> {
+        let folders = self.folders.iter().map(|folder| self.crate_folder(name).join(folder));
+        let files = folders.flat_map(|folder| fs::read_dir(folder).into_iter().flatten().flatten());
+        let mut found: Vec<PathBuf> = files.map(|file| file.path()).filter(|path| path.extension().map_or(false, |end| end == "edit")).collect();
         found.sort();
         found
     }
 
     /// A label that stands in two of the folders.
     fn said_twice(&self, name: &str) -> Option<String> {
-        let mut labels: Vec<String> = self.edits(name).iter().filter_map(|edit| edit.rsplit('/').next().map(str::to_string)).collect();
+        let mut labels: Vec<String> = self.edits(name).iter().map(|path| label(path)).collect();
         labels.sort();
         labels.windows(2).find(|two| two[0] == two[1]).map(|two| two[0].clone())
     }
 
-    fn work(&self, queue: &Queue) {
-        while let Some(task) = queue.next() {
-            match task {
-                Task::Ready(name) => queue.ready(&name, self.readied(&name)),
-                Task::Try(name, edit) => self.tried(&name, &edit),
+    /// An edit whose changes can be made: of its own crate, and of crates below it.
+    fn read(&self, name: &str, path: &Path) -> Result<Edit, String> {
+        let text = fs::read_to_string(path).map_err(|why| why.to_string())?;
+        let changes = edit::read(&text, name)?;
+        for of in edit::changed(&changes) {
+            if of != name && !(self.crate_folder(&of).is_dir() && self.crates.below(name).any(|library| *library == of)) {
+                return Err(format!("{name} stands on no crate '{of}' of this repository"));
+            }
+            edit::apply(&changes, &of, &self.crate_folder(&of))?;
+        }
+        Ok(Edit { of: name.to_string(), label: label(path), text, changes })
+    }
+
+    /// Tries edits that change their own crate alone: `rt ci` takes them for must-fail edits.
+    fn try_own(&self, edits: &[Edit]) -> io::Result<()> {
+        let copy = self.room.join("own");
+        let crates: BTreeSet<&String> = edits.iter().map(|edit| &edit.of).collect();
+        println!("wrong: {} wrong programs of {} crates", edits.len(), crates.len());
+        folder::repository(&self.top, &copy, &self.crates, &self.crates.with_below(crates.into_iter()))?;
+        for edit in edits {
+            let folder = copy.join("crates").join(&edit.of).join("must-fail");
+            fs::create_dir_all(&folder)?;
+            fs::write(folder.join(format!("{}.edit", edit.label)), &edit.text)?;
+        }
+        let log = self.logs.join("rt-ci.log");
+        self.prover.ci(&copy, &log, true)?;
+        fs::remove_dir_all(&copy)?;
+        let said = String::from_utf8_lossy(&fs::read(log)?).to_string();
+        for edit in edits {
+            let told = format!("rt: must-fail {}/{}.edit: ", edit.of, edit.label);
+            let how = said.lines().find_map(|line| line.strip_prefix(&told));
+            let nothing = || Err(format!("not tried: {} is not proved as it stands, or `rt ci` did not end (target/wrong-programs/rt-ci.log)", edit.of));
+            self.tell(&edit.of, &edit.label, how.map_or_else(nothing, |how| judged(verdict::of_edit(how))));
+        }
+        Ok(())
+    }
+
+    /// Tries an edit that changes crates below its own: those that stand between must all be proved with it, and its own alone be refused.
+    fn tried(&self, edit: &Edit) -> Result<String, String> {
+        let copy = self.room.join(&edit.of).join(&edit.label);
+        let said = self.said(edit, &copy).map_err(|why| why.to_string());
+        let _ = fs::remove_dir_all(&copy);
+        let said = said?;
+        for library in self.crates.below(&edit.of) {
+            if said.lines().any(|line| line.starts_with(&format!("rt: {library} NOT PROVED"))) {
+                return Err(format!("bad edit: {library}, below {}, is not proved with it", edit.of));
             }
         }
-    }
-
-    /// The edits that can be tried, the longest first: all of the crate, or none where it is not proved as it stands.
-    fn readied(&self, name: &str) -> Vec<String> {
-        let mut edits = self.edits(name);
-        edits.sort_by_key(|edit| Reverse(self.depth(name, edit)));
-        if let Err(why) = self.checked_as_it_stands(name) {
-            self.tell(name, edits.len(), Err(format!("its {} wrong programs show nothing: {why}", edits.len())));
-            return Vec::new();
+        let ended = |how: &str| said.lines().any(|line| line.starts_with(&format!("rt: {} {how}", edit.of)));
+        if ended("proved") || ended("is kept") {
+            return judged(Verdict::Survived);
         }
-        self.left.lock().unwrap().insert(name.to_string(), edits.len());
-        edits
-    }
-
-    fn tried(&self, name: &str, edit: &str) {
-        let began = Instant::now();
-        let label = edit.rsplit('/').next().unwrap_or(edit);
-        let how = self.attempt(name, edit, label);
-        let how = how.map(|place| format!("refused, at {place} ({:.1} s)", began.elapsed().as_secs_f64()));
-        self.tell(&format!("{name}/{label}"), 1, how);
-        self.one_less(name);
-    }
-
-    /// Removes a crate's store when its last edit has been tried.
-    fn one_less(&self, name: &str) {
-        let mut left = self.left.lock().unwrap();
-        let count = left.entry(name.to_string()).or_insert(1);
-        *count -= 1;
-        if *count == 0 {
-            let _ = fs::remove_dir_all(self.room.join(name));
+        if !ended("NOT PROVED") {
+            return judged(Verdict::Unreached(said.lines().last().unwrap_or("nothing was said").to_string()));
         }
+        judged(verdict::of_check(section(&said, &edit.of)))
     }
 
-    fn log(&self, name: &str, label: &str) -> io::Result<PathBuf> {
-        let folder = self.logs.join(name);
-        fs::create_dir_all(&folder)?;
-        Ok(folder.join(format!("{label}.log")))
+    /// What `rt ci` says of a copy with an edit.
+    fn said(&self, edit: &Edit, copy: &Path) -> io::Result<String> {
+        folder::repository(&self.top, copy, &self.crates, &self.crates.with_below([&edit.of].into_iter()))?;
+        for of in edit::changed(&edit.changes) {
+            let tree = copy.join("crates").join(&of);
+            for (file, text) in edit::apply(&edit.changes, &of, &tree).map_err(lost)? {
+                fs::write(tree.join(file), text)?;
+            }
+        }
+        let log = self.logs.join(&edit.of).join(format!("{}.log", edit.label));
+        fs::create_dir_all(self.logs.join(&edit.of))?;
+        self.prover.ci(copy, &log, false)?;
+        Ok(String::from_utf8_lossy(&fs::read(log)?).to_string())
     }
 
     /// Counts, and prints one line.
-    fn tell(&self, what: &str, count: usize, how: Result<String, String>) {
+    fn tell(&self, name: &str, label: &str, how: Result<String, String>) {
         let mut tally = self.tally.lock().unwrap();
         match how {
-            Ok(words) => {
-                tally.passed += count;
-                println!("wrong {what}: {words}");
+            Ok(place) => {
+                tally.passed += 1;
+                println!("wrong {name}/{label}: refused, at {place}");
             }
             Err(words) => {
-                tally.failed += count;
-                println!("wrong {what}: FAILED: {}", words.chars().take(300).collect::<String>());
+                tally.failed += 1;
+                println!("wrong {name}/{label}: FAILED: {}", words.chars().take(300).collect::<String>());
             }
         }
     }
+}
 
-    fn store(&self, name: &str) -> PathBuf {
-        self.room.join(name).join("store")
-    }
+fn label(path: &Path) -> String {
+    path.file_stem().map_or_else(String::new, |stem| stem.to_string_lossy().to_string())
+}
 
-    /// Checks the crate over what `rt` has proved of it: then its store is filled, and whatever is refused is an edit's doing.
-    fn checked_as_it_stands(&self, name: &str) -> Result<(), String> {
-        let store = self.store(name);
-        let trees = Trees::from([(name.to_string(), self.crate_folder(name))]);
-        let status = copied(&self.prover.checked(name), &store.join(&self.store_name))
-            .and_then(|()| self.log(name, "as-it-stands"))
-            .and_then(|log| self.prover.check(name, &trees, &store, &log))
-            .map_err(|why| why.to_string())?;
-        if status == Some(0) {
-            return Ok(());
-        }
-        Err(format!("the crate is not proved as it stands (target/wrong-programs/{name}/as-it-stands.log)"))
-    }
-
-    /// The changes of an edit: of its own crate, and of crates below it.
-    fn changes(&self, name: &str, edit: &str) -> Result<Vec<Change>, String> {
-        let path = self.crate_folder(name).join(edit).with_extension("edit");
-        let text = fs::read_to_string(path).map_err(|why| why.to_string())?;
-        let changes = edit::read(&text, name)?;
-        let is_below = |of: &String| of == name || self.crate_folder(of).is_dir() && self.prover.crates.below(name).any(|library| library == of);
-        match edit::changed(&changes).into_iter().find(|of| !is_below(of)) {
-            Some(stranger) => Err(format!("{name} stands on no crate '{stranger}' of this repository")),
-            None => Ok(changes),
-        }
-    }
-
-    /// How many crates have to be proved before the edit's own is checked.
-    fn depth(&self, name: &str, edit: &str) -> usize {
-        self.changes(name, edit).map_or(0, |changes| self.prover.crates.anew(name, &edit::changed(&changes)).len())
-    }
-
-    /// Tries one edit: the place where it is refused, or what is wrong with it. Only its logs stay.
-    fn attempt(&self, name: &str, edit: &str, label: &str) -> Result<String, String> {
-        let room = self.room.join(name);
-        let (copies, store) = (room.join(label), room.join(format!("{label}.store")));
-        let verdict = self.edited(name, edit, &copies).and_then(|edited| self.checked_edited(name, label, &edited, &store));
-        let _ = fs::remove_dir_all(&copies);
-        let _ = fs::remove_dir_all(&store);
-        judged(verdict?)
-    }
-
-    /// Makes copies of the crates that the edit changes, with its changes.
-    fn edited(&self, name: &str, edit: &str, copies: &Path) -> Result<Trees, String> {
-        let changes = self.changes(name, edit).map_err(|why| format!("bad edit: {why}"))?;
-        let mut edited = Trees::new();
-        for of in edit::changed(&changes) {
-            let tree = copies.join(&of);
-            for part in ["src", "specs", "proofs"] {
-                copied(&self.crate_folder(&of).join(part), &tree.join(part)).map_err(|why| why.to_string())?;
-            }
-            edit::apply(&changes, &of, &tree).map_err(|why| format!("bad edit: {why}"))?;
-            edited.insert(of, tree);
-        }
-        Ok(edited)
-    }
-
-    /// Checks the crate with such copies over a copy of its store. Of what stands below it, the copies and what stands on one of them must be
-    /// proved first; the store then has it.
-    fn checked_edited(&self, name: &str, label: &str, edited: &Trees, store: &Path) -> Result<Verdict, String> {
-        copied(&self.store(name), store).map_err(|why| why.to_string())?;
-        let tree = |of: &str| edited.get(of).cloned().unwrap_or_else(|| self.crate_folder(of));
-        let mut trees = Trees::new();
-        for library in self.prover.crates.anew(name, &edited.keys().cloned().collect()) {
-            trees.insert(library.clone(), tree(&library));
-            let verdict = copied(&self.prover.checked(&library), &store.join(&self.store_name))
-                .and_then(|()| self.log(name, &format!("{label}-{library}")))
-                .and_then(|log| self.verdict(&library, &trees, store, &log));
-            match verdict.map_err(|why| why.to_string())? {
-                Verdict::Survived => (),
-                Verdict::Refused(why) | Verdict::Unfit(why) | Verdict::Unreached(why) => {
-                    return Err(format!("bad edit: {library}, below {name}, is not proved with it: {why}"));
-                }
-            }
-        }
-        trees.insert(name.to_string(), tree(name));
-        self.log(name, label).and_then(|log| self.verdict(name, &trees, store, &log)).map_err(|why| why.to_string())
-    }
-
-    fn verdict(&self, name: &str, trees: &Trees, store: &Path, log: &Path) -> io::Result<Verdict> {
-        let status = self.prover.check(name, trees, store, log)?;
-        let said = fs::read(log)?;
-        Ok(verdict::of(status, &String::from_utf8_lossy(&said), &trees[name].to_string_lossy()))
-    }
+/// What a log of `rt ci` says of a crate's check.
+fn section<'a>(said: &'a str, name: &str) -> &'a str {
+    let head = format!("== {name}\n");
+    let from = if said.starts_with(&head) { 0 } else { said.find(&format!("\n{head}")).map_or(said.len(), |at| at + 1) };
+    let text = said.get(from + head.len()..).unwrap_or("");
+    &text[..text.find(&format!("\nrt: {name} ")).map_or(text.len(), |at| at + 1)]
 }
 
 /// The place of a refusal at a fact, or why a verdict is none.
@@ -311,5 +272,18 @@ fn judged(verdict: Verdict) -> Result<String, String> {
         Verdict::Survived => Err("not refused: the crate is still proved with this edit".to_string()),
         Verdict::Unfit(why) => Err(format!("refused for no fact: {why}")),
         Verdict::Unreached(why) => Err(format!("it does not reach the prover: {why}")),
+    }
+}
+
+#[cfg(test)]
+mod tests {
+    use super::*;
+
+    #[test]
+    fn a_section_ends_where_rt_tells_how_it_ended() {
+        let said = "== a\none\nrt: more\nlogic=proved\nrt: a proved\n== b\ntwo\nlogic=not-proved\nrt: b NOT PROVED\nrt: FAILED: b\n";
+        assert_eq!(section(said, "a"), "one\nrt: more\nlogic=proved\n");
+        assert_eq!(section(said, "b"), "two\nlogic=not-proved\n");
+        assert_eq!(section(said, "c"), "");
     }
 }

@@ -5,25 +5,45 @@
 pub enum Verdict {
     /// Refused at a fact, at this place.
     Refused(String),
-    /// Refused, and for no fact: the first error says why.
+    /// Refused, and for no fact: why.
     Unfit(String),
     /// Proved all the same.
     Survived,
-    /// No answer of the prover's: the first line that was said.
+    /// No answer of the prover's: what was said.
     Unreached(String),
 }
 
-/// The verdict on a check that ended with `status` and said `said`; places in `tree` are told from there.
-pub fn of(status: Option<i32>, said: &str, tree: &str) -> Verdict {
-    if status == Some(0) {
+/// The verdict that `rt` tells on a must-fail edit, behind its name.
+pub fn of_edit(said: &str) -> Verdict {
+    if said.starts_with("NOT REFUSED") {
         return Verdict::Survived;
     }
-    if status != Some(1) || !said.lines().any(|line| line.starts_with("logic=not-proved")) {
-        return Verdict::Unreached(said.lines().next().unwrap_or("nothing was said").to_string());
+    if let Some(why) = said.strip_prefix("BAD EDIT: ") {
+        return Verdict::Unreached(why.to_string());
     }
-    match refusals(said, tree).into_iter().find(|refusal| !refusal.follows()) {
+    match said.strip_prefix("refused, as it must be") {
+        Some(first) if first.starts_with(": ") => of_refusals(first.trim_start_matches(": ")),
+        // By a limit, or only because a proof names what is gone.
+        Some(why) if !why.is_empty() => Verdict::Unfit(why.trim().to_string()),
+        Some(_) => Verdict::Unfit("the prover names no place".to_string()),
+        None => Verdict::Unreached(said.to_string()),
+    }
+}
+
+/// The verdict on a crate that `rt ci` does not prove, by what it says of that.
+pub fn of_check(said: &str) -> Verdict {
+    if said.lines().any(|line| line.starts_with("logic=not-proved")) {
+        return of_refusals(said);
+    }
+    Verdict::Unreached(said.lines().next().unwrap_or("nothing was said").to_string())
+}
+
+/// The first refusal that is not only for a name decides.
+fn of_refusals(said: &str) -> Verdict {
+    let found = refusals(said);
+    match found.iter().find(|refusal| !refusal.names_nothing()).or(found.first()) {
         None => Verdict::Unfit("the prover names no place".to_string()),
-        Some(first) if first.is_fact() => Verdict::Refused(first.place),
+        Some(first) if first.is_fact() => Verdict::Refused(first.place.clone()),
         Some(first) => Verdict::Unfit(format!("{}: {}", first.place, first.words)),
     }
 }
@@ -35,7 +55,7 @@ struct Refusal {
 }
 
 /// All refusals, in their order. A line that begins with two spaces goes on with the one before it; what follows is advice, and passed over.
-fn refusals(said: &str, tree: &str) -> Vec<Refusal> {
+fn refusals(said: &str) -> Vec<Refusal> {
     let mut found: Vec<Refusal> = Vec::new();
     let mut inside = false;
     for line in said.lines() {
@@ -50,39 +70,30 @@ fn refusals(said: &str, tree: &str) -> Vec<Refusal> {
         });
         inside = begun.is_some();
         if let Some((place, words)) = begun {
-            let place = place.strip_prefix(tree).unwrap_or(place).trim_start_matches('/');
-            found.push(Refusal { place: place.to_string(), words: words.to_string() });
+            found.push(Refusal { place: place.trim_start_matches("./").to_string(), words: words.to_string() });
         }
     }
     found
 }
 
-/// What the prover says of a text that names a thing that is not there, or takes one for what it is not.
-const NAMES_NOTHING: [&str; 6] = [
-    "that can be named from here",
-    "has no field `",
-    "is not in scope: add",
-    "has too few arguments",
-    "too many arguments",
-    "no module is found",
-];
+/// What the prover says of a text that names a thing that is not there, takes one for what it is not, or cites what was refused.
+const NAMES_NOTHING: [&str; 7] =
+    ["has no field", "is not in scope", "has no `", "was not admitted", "has too few arguments", "too many arguments", "no module is found"];
 
 impl Refusal {
-    /// Refused only because it cites what was refused.
-    fn follows(&self) -> bool {
-        self.words.contains("was not admitted (it has holes or undetermined implicits, or was rejected)")
+    fn names_nothing(&self) -> bool {
+        self.place.starts_with("proofs/") && NAMES_NOTHING.iter().any(|words| self.words.contains(words))
     }
 
-    /// A fact is refused by the prover's own search, or in a file of proofs: there not where the file names a step or a need that there is
-    /// not, nor at the declaration that puts a function's needs together, which is refused where there are others than the file answers.
+    /// A fact is refused by the prover's own search, or in a file of proofs: there not at the declaration that puts a function's goals together,
+    /// which is refused where there are others than the file answers.
     fn is_fact(&self) -> bool {
         if self.words.starts_with("it is not proved that") {
             return true;
         }
         let declared = self.words.strip_prefix('`').and_then(|words| words.split('`').next()).unwrap_or("");
         let together = self.place.contains("/Proof.antt:") && declared.ends_with("-spec");
-        let names_nothing = NAMES_NOTHING.iter().any(|words| self.words.contains(words));
-        self.place.starts_with("proofs/") && !together && !names_nothing
+        self.place.starts_with("proofs/") && !together && !self.names_nothing()
     }
 }
 
@@ -90,8 +101,8 @@ impl Refusal {
 mod tests {
     use super::*;
 
-    fn said(errors: &str) -> Verdict {
-        of(Some(1), &format!("{errors}\nfn a::b: not proved\nlogic=not-proved\n"), "/copy")
+    fn checked(errors: &str) -> Verdict {
+        of_check(&format!("{errors}\nfn a::b: not proved\nlogic=not-proved\n"))
     }
 
     fn refused(place: &str) -> Verdict {
@@ -100,46 +111,58 @@ mod tests {
 
     #[test]
     fn a_fact_is_an_error_in_a_proof() {
-        assert_eq!(said("/copy/proofs/f/Proof.antt:5:1: error: `returns`: the two types differ"), refused("proofs/f/Proof.antt:5:1"));
-        assert_eq!(said("/copy/proofs/Laws.antt:5:1: error: `low-bank`: the two types differ"), refused("proofs/Laws.antt:5:1"));
+        for place in ["proofs/f/Proof.antt:5:1", "proofs/f/Answers.antt:5:1", "proofs/Laws.antt:5:1"] {
+            let error = format!("./{place}: error: `returns`: the two types differ");
+            assert_eq!(checked(&error), refused(place));
+            assert_eq!(of_edit(&format!("refused, as it must be: {error}")), refused(place));
+        }
     }
 
     #[test]
     fn advice_is_passed_over() {
         let advice = "  and the other has `1`\n  `u` is not in scope here: name it\n  `a` has no field `b`";
-        let error = "/copy/proofs/Laws.antt:5:1: error: `low-bank`: the two types differ where one has `0`";
-        assert_eq!(said(&format!("{error}\n{advice}")), refused("proofs/Laws.antt:5:1"));
+        let error = "./proofs/Laws.antt:5:1: error: `low_bank`: the two types differ where one has `0`";
+        assert_eq!(checked(&format!("{error}\n{advice}")), refused("proofs/Laws.antt:5:1"));
     }
 
     #[test]
     fn a_fact_is_what_no_search_proves() {
-        let note = "note: /copy/src/lib.rt:3:1: it is not proved that what the function ensures holds when it returns (`returns`)";
-        assert_eq!(said(note), refused("src/lib.rt:3:1"));
-        let follows = "/copy/proofs/f/Proof.antt:9:1: error: `f-spec`: `close` was not admitted (it has holes or undetermined implicits, \
+        let note = "note: src/lib.rt:3:1: it is not proved that what the function ensures holds when it returns (`returns`)";
+        assert_eq!(checked(note), refused("src/lib.rt:3:1"));
+        assert_eq!(of_edit(&format!("refused, as it must be: {note}")), refused("src/lib.rt:3:1"));
+        let follows = "./proofs/f/Proof.antt:9:1: error: `f-spec`: `close` was not admitted (it has holes or undetermined implicits, \
                        or was rejected), so this cannot be checked";
-        assert_eq!(said(&format!("{follows}\n{note}")), refused("src/lib.rt:3:1"));
+        assert_eq!(checked(&format!("{follows}\n{note}")), refused("src/lib.rt:3:1"));
     }
 
     #[test]
     fn what_makes_no_sense_is_no_fact() {
         for error in [
-            "/copy/specs/Banks.antt:5:1: error: `bankX`: the two types differ",
-            "/copy/src/lib.rt:5:1: error: `Post`: the two types differ",
-            "/copy/proofs/f/Proof.antt:5:1: error: `add-result`: module `Tie` has no `Need-add-result` that can be named from here",
-            "/copy/proofs/f/Proof.antt:5:1: error: `returns`: record `Lts.After-struct-known`\n  has no field `args`",
-            "/copy/proofs/f/Proof.antt:9:1: error: `f-spec`: the two types differ",
+            "./specs/Banks.antt:5:1: error: `bankX`: the two types differ",
+            "./src/lib.rt:5:1: error: `Post`: the two types differ",
+            "./proofs/f/Proof.antt:5:1: error: `add-result`: module `Tie` has no `Need-add-result` that can be named from here",
+            "./proofs/f/Answers.antt:5:1: error: `returns`: record `Lts.After-struct-known`\n  has no field `args`",
+            "./proofs/f/Proof.antt:9:1: error: `f-spec`: the two types differ",
             "",
         ] {
-            assert!(matches!(said(error), Verdict::Unfit(_)), "{error}");
+            assert!(matches!(checked(error), Verdict::Unfit(_)), "{error}");
+            assert!(matches!(of_edit(&format!("refused, as it must be: {}", error.replace('\n', ""))), Verdict::Unfit(_)), "{error}");
+        }
+    }
+
+    #[test]
+    fn a_refusal_that_shows_little_is_no_fact() {
+        for why in [" (only because a proof file names what the edit took away, so this says little): ./proofs/f/Answers.antt:5:1: x", "", " (only by a limit): x"] {
+            assert!(matches!(of_edit(&format!("refused, as it must be{why}")), Verdict::Unfit(_)), "{why}");
         }
     }
 
     #[test]
     fn without_a_verdict_of_the_prover_nothing_is_refused() {
-        assert_eq!(of(Some(0), "logic=proved", "/copy"), Verdict::Survived);
-        let fact = "/copy/proofs/f/Proof.antt:5:1: error: `returns`: the two types differ";
-        assert!(matches!(of(Some(1), fact, "/copy"), Verdict::Unreached(_)));
-        assert!(matches!(of(Some(3), "rattle: no verdict", "/copy"), Verdict::Unreached(_)));
-        assert!(matches!(of(None, "", "/copy"), Verdict::Unreached(_)));
+        assert_eq!(of_edit("NOT REFUSED: the crate is still proved with this edit"), Verdict::Survived);
+        assert_eq!(of_edit("BAD EDIT: it did not reach the prover"), Verdict::Unreached("it did not reach the prover".to_string()));
+        assert!(matches!(of_edit("NOT TRIED: its check was killed"), Verdict::Unreached(_)));
+        let fact = "./proofs/f/Proof.antt:5:1: error: `returns`: the two types differ";
+        assert!(matches!(of_check(fact), Verdict::Unreached(_)));
     }
 }
