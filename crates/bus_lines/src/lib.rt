@@ -4,7 +4,7 @@
 
 use bus::{Advanced, ReadAnswer, WriteAnswer};
 use cartridge::Cartridge;
-use libc::STDOUT_FILENO;
+use std::io;
 
 fn digit(n: u16) -> u8 {
     let d = (n % 16) as u8;
@@ -12,9 +12,9 @@ fn digit(n: u16) -> u8 {
 }
 
 // No letter, no line.
-fn line(letter: u8, addr: u16, byte: u8) {
+fn line(rt: &impl Print, letter: u8, addr: u16, byte: u8) -> io::Result<()> {
     if letter == 0 {
-        return;
+        return Ok(());
     }
     let b = byte as u16;
     let out = [
@@ -29,42 +29,40 @@ fn line(letter: u8, addr: u16, byte: u8) {
         digit(b),
         b'\n',
     ];
-    io::write_all(STDOUT_FILENO, &out);
+    rt.write_all(&out)
 }
 
-fn pair(byte: u8) {
+fn pair(rt: &impl Print, byte: u8) -> io::Result<()> {
     let b = byte as u16;
-    io::write_all(STDOUT_FILENO, &[b' ', digit(b / 16), digit(b)]);
+    rt.write_all(&[b' ', digit(b / 16), digit(b)])
 }
 
 // ` 5C` for each byte.
-pub fn hex(bytes: &[u8]) {
-    let mut i: usize = 0;
-    while i < bytes.len() {
-        pair(bytes[i]);
-        i += 1;
+pub fn hex(rt: &impl Print, bytes: &[u8]) -> io::Result<()> {
+    for b in bytes {
+        pair(rt, *b)?;
     }
+    Ok(())
 }
 
-pub fn field(n: u64) {
-    io::write_all(STDOUT_FILENO, b" ");
-    io::print_decimal(STDOUT_FILENO, n);
+pub fn field(rt: &impl Print, n: u64) -> io::Result<()> {
+    print!(rt; " {n}")
 }
 
-pub fn number(letter: u8, n: u64) {
-    io::write_all(STDOUT_FILENO, &[letter]);
-    field(n);
-    io::write_all(STDOUT_FILENO, b"\n");
+pub fn number(rt: &impl Print, letter: u8, n: u64) -> io::Result<()> {
+    rt.write_all(&[letter])?;
+    field(rt, n)?;
+    println!(rt)
 }
 
 // The cartridge that was mounted: length, type byte, banks, RAM size.
-pub fn heading(cart: Cartridge, codes: u32) {
-    io::write_all(STDOUT_FILENO, b"M");
-    field(cart.length as u64);
-    field((codes / 65536 % 256) as u64);
-    field(cart.banks as u64);
-    field(cart.size as u64);
-    io::write_all(STDOUT_FILENO, b"\n");
+pub fn heading(rt: &impl Print, cart: Cartridge, codes: u32) -> io::Result<()> {
+    print!(rt; "M")?;
+    field(rt, cart.length as u64)?;
+    field(rt, (codes / 65536 % 256) as u64)?;
+    field(rt, cart.banks as u64)?;
+    field(rt, cart.size as u64)?;
+    println!(rt)
 }
 
 fn folded(s: u64, b: u8) -> u64 {
@@ -74,87 +72,101 @@ fn folded(s: u64, b: u8) -> u64 {
 // Each byte counts with its place.
 pub fn sum(bytes: &[u8]) -> u64 {
     let mut s: u64 = 0;
-    let mut i: usize = 0;
-    while i < bytes.len() {
-        s = folded(s, bytes[i]);
-        i += 1;
+    for b in bytes {
+        s = folded(s, *b);
     }
     s
 }
 
-fn read(cart: Cartridge, rom: &[u8], ram: &[u8], addr: u16) {
+fn read(rt: &impl Print, cart: Cartridge, rom: &[u8], ram: &[u8], addr: u16) -> io::Result<()> {
     match bus::read(cart, rom, ram, addr) {
-        ReadAnswer::Byte(b) => line(b'R', addr, b),
-        ReadAnswer::Refuse(why) => number(b'X', why.number() as u64),
+        ReadAnswer::Byte(b) => line(rt, b'R', addr, b),
+        ReadAnswer::Refuse(why) => number(rt, b'X', why.number() as u64),
     }
 }
 
-fn write(cart: Cartridge, ram: &mut [u8], letter: u8, addr: u16, byte: u8) -> Cartridge {
+fn write(
+    rt: &impl Print,
+    cart: Cartridge,
+    ram: &mut [u8],
+    letter: u8,
+    addr: u16,
+    byte: u8,
+) -> io::Result<Cartridge> {
     match bus::write(cart, ram, addr, byte) {
         WriteAnswer::Done(next) => {
-            line(letter, addr, byte);
-            next
+            line(rt, letter, addr, byte)?;
+            Ok(next)
         }
         WriteAnswer::Refuse(why) => {
-            number(b'X', why.number() as u64);
-            cart
+            number(rt, b'X', why.number() as u64)?;
+            Ok(cart)
         }
     }
 }
 
-fn advance(cart: Cartridge, n: u64) -> Cartridge {
+fn advance(rt: &impl Print, cart: Cartridge, n: u64) -> io::Result<Cartridge> {
     match bus::advance(cart, n) {
         Advanced::To(next) => {
-            number(b'C', n);
-            next
+            number(rt, b'C', n)?;
+            Ok(next)
         }
         Advanced::Refuse(why) => {
-            number(b'X', why.number() as u64);
-            cart
+            number(rt, b'X', why.number() as u64)?;
+            Ok(cart)
         }
     }
 }
 
 // The bank, then the byte: a mix of its place n in the area, moved behind all places of an image.
-fn filled_at(cart: Cartridge, ram: &mut [u8], n: usize) -> Cartridge {
-    let banked = write(cart, ram, 0, 0x4000, (n / 0x2000 % 16) as u8);
+fn filled_at(rt: &impl Print, cart: Cartridge, ram: &mut [u8], n: usize) -> io::Result<Cartridge> {
+    let banked = write(rt, cart, ram, 0, 0x4000, (n / 0x2000 % 16) as u8)?;
     let byte = bus_recipe::build::mixed(n % 0x800000 + 0x800000);
-    write(banked, ram, 0, (0xA000 + n % 0x2000) as u16, byte)
+    write(rt, banked, ram, 0, (0xA000 + n % 0x2000) as u16, byte)
 }
 
-fn filled(start: Cartridge, ram: &mut [u8]) -> Cartridge {
+fn filled(rt: &impl Print, start: Cartridge, ram: &mut [u8]) -> io::Result<Cartridge> {
     let mut cart = start;
-    let mut n: usize = 0;
-    while n < ram.len() {
-        cart = filled_at(cart, ram, n);
-        n += 1;
+    let length = ram.len();
+    for n in 0..length {
+        cart = filled_at(rt, cart, ram, n)?;
     }
-    number(b'F', n as u64);
-    cart
+    number(rt, b'F', length as u64)?;
+    Ok(cart)
 }
 
 // A code is the line's letter and then an address and a byte, or a count of clocks, or nothing: 0x52_A000_00, 0x57_A000_5C,
 // 0x43_000005, 0x46_000000. A small `w`, 0x77_4000_08, is written with no line.
-fn step(cart: Cartridge, rom: &[u8], ram: &mut [u8], code: u32) -> Cartridge {
+fn step(
+    rt: &impl Print,
+    cart: Cartridge,
+    rom: &[u8],
+    ram: &mut [u8],
+    code: u32,
+) -> io::Result<Cartridge> {
     let addr = (code / 256 % 65536) as u16;
     match (code / 0x1000000) as u8 {
         b'R' => {
-            read(cart, rom, ram, addr);
-            cart
+            read(rt, cart, rom, ram, addr)?;
+            Ok(cart)
         }
-        b'W' => write(cart, ram, b'W', addr, (code % 256) as u8),
-        b'w' => write(cart, ram, 0, addr, (code % 256) as u8),
-        b'C' => advance(cart, (code % 0x1000000) as u64),
-        _ => filled(cart, ram),
+        b'W' => write(rt, cart, ram, b'W', addr, (code % 256) as u8),
+        b'w' => write(rt, cart, ram, 0, addr, (code % 256) as u8),
+        b'C' => advance(rt, cart, (code % 0x1000000) as u64),
+        _ => filled(rt, cart, ram),
     }
 }
 
-pub fn each(start: Cartridge, rom: &[u8], ram: &mut [u8], codes: &[u32]) -> Cartridge {
+pub fn each(
+    rt: &impl Print,
+    start: Cartridge,
+    rom: &[u8],
+    ram: &mut [u8],
+    codes: &[u32],
+) -> io::Result<Cartridge> {
     let mut cart = start;
-    let mut i: usize = 0;
-    while i < codes.len() {
-        cart = step(cart, rom, ram, codes[i]);
-        i += 1;
+    for code in codes {
+        cart = step(rt, cart, rom, ram, *code)?;
     }
-    cart
+    Ok(cart)
 }

@@ -8,9 +8,13 @@
 
 mod directed;
 
+ghost use Rattle.std.specs.Prelude.{◌≡◌, IfOk, vec_len};
+
 use bus_recipe::{build, draw};
 use cartridge::Cartridge;
 use mount::Mounted;
+use std::alloc::{AllocError, Global};
+use std::io;
 
 // A case: the RAM area's length in units of 512 bytes, the image's length, and its type byte, ROM code and RAM code, which are
 // the seed of what is drawn too.
@@ -62,62 +66,84 @@ const REFUSED_CASES: [u64; 4] = [
     0x0041_200000_10_06_03,
 ];
 
-fn played(start: Cartridge, rom: &[u8], ram: &mut [u8], codes: u32, table: &[u32]) {
-    let begun = bus_lines::each(start, rom, ram, &directed::START);
-    let directed = bus_lines::each(begun, rom, ram, table);
-    bus_lines::each(directed, rom, ram, &draw::codes(codes));
-    bus_lines::number(b'S', bus_lines::sum(ram));
+fn played(
+    rt: &impl Print,
+    start: Cartridge,
+    rom: &[u8],
+    ram: &mut [u8],
+    codes: u32,
+    table: &[u32],
+) -> io::Result<()> {
+    let begun = bus_lines::each(rt, start, rom, ram, &directed::START)?;
+    let directed = bus_lines::each(rt, begun, rom, ram, table)?;
+    bus_lines::each(rt, directed, rom, ram, &draw::codes(codes))?;
+    bus_lines::number(rt, b'S', bus_lines::sum(ram))
 }
 
 // At wall time 7, which no access shows.
-fn mounted(rom: &[u8], ram: &mut [u8], codes: u32, table: &[u32]) {
+fn mounted(
+    rt: &impl Print,
+    rom: &[u8],
+    ram: &mut [u8],
+    codes: u32,
+    table: &[u32],
+) -> io::Result<()> {
     match mount::mount(rom, ram, 7) {
         Mounted::To(cart) => {
-            bus_lines::heading(cart, codes);
-            played(cart, rom, ram, codes, table);
+            bus_lines::heading(rt, cart, codes)?;
+            played(rt, cart, rom, ram, codes, table)
         }
-        Mounted::Refuse(why) => bus_lines::number(b'N', why.number() as u64),
+        Mounted::Refuse(why) => bus_lines::number(rt, b'N', why.number() as u64),
     }
 }
 
 // The parts of the image and of the RAM that the case lends.
-fn cut(image: &[u8], ram: &mut [u8], case: u64, table: &[u32]) {
-    let start: usize = 0;
+fn cut(rt: &impl Print, image: &[u8], ram: &mut [u8], case: u64, table: &[u32]) -> io::Result<()> {
     let len = (case / 0x1000000 % 0x1000000) as usize;
     let area = (case / 0x1_0000_0000_0000 * 512) as usize;
     if image.len() < len {
-        return;
+        return Ok(());
     }
     if ram.len() < area {
-        return;
+        return Ok(());
     }
     let codes = (case % 0x1000000) as u32;
-    mounted(&image[start..len], &mut ram[start..area], codes, table);
+    mounted(rt, &image[..len], &mut ram[..area], codes, table)
 }
 
 // Each case with its accesses.
-fn all(image: &mut [u8; 0x800000], ram: &mut [u8; 0x20200], cases: &[u64], table: &[u32]) {
-    let mut i: usize = 0;
-    while i < cases.len() {
-        let case = cases[i];
-        build::header(image, case);
-        cut(image, ram, case, table);
-        i += 1;
+fn all(
+    rt: &impl Print,
+    image: &mut [u8; 0x800000],
+    ram: &mut [u8; 0x20200],
+    cases: &[u64],
+    table: &[u32],
+) -> io::Result<()> {
+    for case in cases {
+        build::header(image, *case);
+        cut(rt, image, ram, *case, table)?;
     }
+    Ok(())
 }
 
-fn blank() -> [u8; 0x800000] {
-    [0; 0x800000]
+// On the heap: a stack has no room for it.
+fn blank(alloc: Global) -> Result<Vec<u8>, AllocError>
+    ensures { IfOk result (λ image. vec_len image ≡ 0x800000) }
+{
+    vec![in alloc; 0; 0x800000]
 }
 
-fn main() {
-    let mut image = blank();
+fn main(rt: HostRuntime) -> io::Result<()> {
+    let mut bytes = blank(rt.alloc())?;
+    let Some(image) = bytes.as_mut_slice().as_mut_array() else {
+        unreachable!()
+    };
     let mut ram = [0u8; 0x20200];
-    build::fill(&mut image);
-    all(&mut image, &mut ram, &NO_MAPPER_CASES, &directed::NO_MAPPER);
-    all(&mut image, &mut ram, &MBC1_CASES, &directed::MBC1);
-    all(&mut image, &mut ram, &MBC2_CASES, &directed::MBC2);
-    all(&mut image, &mut ram, &MBC3_CASES, &directed::MBC3);
-    all(&mut image, &mut ram, &MBC5_CASES, &directed::MBC5);
-    all(&mut image, &mut ram, &REFUSED_CASES, &directed::REFUSED);
+    build::fill(image);
+    all(&rt, image, &mut ram, &NO_MAPPER_CASES, &directed::NO_MAPPER)?;
+    all(&rt, image, &mut ram, &MBC1_CASES, &directed::MBC1)?;
+    all(&rt, image, &mut ram, &MBC2_CASES, &directed::MBC2)?;
+    all(&rt, image, &mut ram, &MBC3_CASES, &directed::MBC3)?;
+    all(&rt, image, &mut ram, &MBC5_CASES, &directed::MBC5)?;
+    all(&rt, image, &mut ram, &REFUSED_CASES, &directed::REFUSED)
 }

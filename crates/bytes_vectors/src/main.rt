@@ -2,44 +2,40 @@
 // least byte first.
 #![tactic(auto)]
 
-use libc::STDOUT_FILENO;
+use std::io;
 
-fn show(b: u8) {
-    io::print_decimal(STDOUT_FILENO, b as u64);
-    io::write_all(STDOUT_FILENO, b" ");
+fn show(rt: &impl Print, b: u8) -> io::Result<()> {
+    print!(rt; "{b} ")
 }
 
-fn show_all(bytes: &[u8]) {
-    let mut i: usize = 0;
-    while i < bytes.len() {
-        show(bytes[i]);
-        i += 1;
+fn show_all(rt: &impl Print, bytes: &[u8]) -> io::Result<()> {
+    for b in bytes {
+        show(rt, *b)?;
     }
-    io::write_all(STDOUT_FILENO, b"\n");
+    println!(rt)
 }
 
-fn number(n: u64) {
-    io::print_decimal(STDOUT_FILENO, n);
-    io::write_all(STDOUT_FILENO, b"\n");
+fn number(rt: &impl Print, n: u64) -> io::Result<()> {
+    println!(rt; "{n}")
 }
 
 // A field of each width with a byte between, and one that reaches the end.
-fn fields(bytes: &mut [u8]) {
+fn fields(rt: &impl Print, bytes: &mut [u8]) -> io::Result<()> {
     if bytes.len() != 20 {
-        return;
+        return Ok(());
     }
     bytes_le::write_u16(bytes, 1, 0x1234);
     bytes_le::write_u32(bytes, 4, 0x89ABCDEF);
     bytes_le::write_u64(bytes, 9, 0x0123456789ABCDEF);
     bytes_le::write_u16(bytes, 18, 0xFF00);
-    show_all(bytes);
-    number(bytes_le::read_u16(bytes, 1) as u64);
-    number(bytes_le::read_u32(bytes, 4) as u64);
-    number(bytes_le::read_u64(bytes, 9));
-    number(bytes_le::read_u64(bytes, 12));
+    show_all(rt, bytes)?;
+    number(rt, bytes_le::read_u16(bytes, 1) as u64)?;
+    number(rt, bytes_le::read_u32(bytes, 4) as u64)?;
+    number(rt, bytes_le::read_u64(bytes, 9))?;
+    number(rt, bytes_le::read_u64(bytes, 12))
 }
 
-fn main() {
+fn main(rt: HostRuntime) -> io::Result<()> {
     let mut bytes = [0xEEu8; 20];
-    fields(&mut bytes);
+    fields(&rt, &mut bytes)
 }

@@ -13,10 +13,8 @@ fn set_on(image: &mut [u8], at: usize, i: usize, b: u8) {
 
 // The bytes of src from place at on, as far as the image goes.
 pub fn put(image: &mut [u8], at: usize, src: &[u8]) {
-    let mut i: usize = 0;
-    while i < src.len() {
-        set_on(image, at, i, src[i]);
-        i += 1;
+    for (i, b) in src.iter().enumerate() {
+        set_on(image, at, i, *b);
     }
 }
 
@@ -35,10 +33,8 @@ pub fn logo(image: &mut [u8], quarter: usize) {
 // The sum of the header's 25 bytes.
 fn sum(image: &[u8]) -> u32 {
     let mut s: u32 = 0;
-    let mut i: usize = 0x134;
-    while i < 0x14D {
+    for i in 0x134..0x14Dusize {
         s = s % 65536 + image::byte_at(image, i) as u32;
-        i += 1;
     }
     s
 }

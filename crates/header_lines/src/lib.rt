@@ -6,16 +6,15 @@
 pub mod build;
 
 use header::{Checked, Facts};
-use libc::STDOUT_FILENO;
+use std::io;
 use types::Kind;
 
-fn byte(b: u8) {
-    io::write_all(STDOUT_FILENO, &[b]);
+fn byte(rt: &impl Print, b: u8) -> io::Result<()> {
+    rt.write_all(&[b])
 }
 
-fn field(n: u64) {
-    byte(b' ');
-    io::print_decimal(STDOUT_FILENO, n);
+fn field(rt: &impl Print, n: u64) -> io::Result<()> {
+    print!(rt; " {n}")
 }
 
 // 0 no mapper, 1 MBC1, 2 MBC2, 3 and 4 MBC3 without and with a timer, 5 and 6 MBC5 without and with rumble.
@@ -32,41 +31,41 @@ fn kind_number(k: Kind) -> u64 {
     }
 }
 
-fn show_facts(f: Facts) {
-    byte(b'A');
+fn show_facts(rt: &impl Print, f: Facts) -> io::Result<()> {
+    byte(rt, b'A')?;
     let k = f.kind;
-    field(kind_number(k));
-    field(f.multicart as u64);
-    field(f.ram as u64);
-    field(f.battery as u64);
-    field(f.banks as u64);
-    field(f.size as u64);
-    field(f.colour as u64);
-    field(f.title as u64);
+    field(rt, kind_number(k))?;
+    field(rt, f.multicart as u64)?;
+    field(rt, f.ram as u64)?;
+    field(rt, f.battery as u64)?;
+    field(rt, f.banks as u64)?;
+    field(rt, f.size as u64)?;
+    field(rt, f.colour as u64)?;
+    field(rt, f.title as u64)
 }
 
 // The line for an image as it is.
-pub fn show(image: &[u8]) {
+pub fn show(rt: &impl Print, image: &[u8]) -> io::Result<()> {
     match header::check(image) {
-        Checked::Accept(f) => show_facts(f),
+        Checked::Accept(f) => show_facts(rt, f)?,
         Checked::Refuse(why) => {
-            byte(b'N');
-            field(why.number() as u64);
+            byte(rt, b'N')?;
+            field(rt, why.number() as u64)?;
         }
     }
-    byte(b'\n');
+    byte(rt, b'\n')
 }
 
 // The line for the first n bytes of an image, if it has as many.
-pub fn cut(image: &[u8], n: usize) {
+pub fn cut(rt: &impl Print, image: &[u8], n: usize) -> io::Result<()> {
     if n <= image.len() {
-        let start: usize = 0;
-        show(&image[start..n]);
+        show(rt, &image[..n])?;
     }
+    Ok(())
 }
 
 // The line for an image that is given a header: a title, and type byte, ROM code and RAM code in one number.
-pub fn made(image: &mut [u8], title: &[u8], codes: u32) {
+pub fn made(rt: &impl Print, image: &mut [u8], title: &[u8], codes: u32) -> io::Result<()> {
     build::header(image, title, codes);
-    show(image);
+    show(rt, image)
 }

@@ -2,69 +2,67 @@
 #![tactic(auto)]
 
 use header_lines::{build, cut, made, show};
+use std::io;
 
 // Every type byte with 2 banks and no RAM.
-fn every_type(image: &mut [u8], title: &[u8]) {
-    let mut t: u32 = 0;
-    while t < 256 {
-        made(image, title, t * 65536);
-        t += 1;
+fn every_type(rt: &impl Print, image: &mut [u8], title: &[u8]) -> io::Result<()> {
+    for t in 0..256u32 {
+        made(rt, image, title, t * 65536)?;
     }
+    Ok(())
 }
 
 // An image cut after every byte from 0 to 0x150.
-fn every_cut(image: &[u8]) {
-    let mut n: usize = 0;
-    while n <= 0x150 {
-        cut(image, n);
-        n += 1;
+fn every_cut(rt: &impl Print, image: &[u8]) -> io::Result<()> {
+    for n in 0..=0x150usize {
+        cut(rt, image, n)?;
     }
+    Ok(())
 }
 
 // None, two bytes of UTF-8 that end at the fifteenth, that are cut there, and 0x143, which is no title's byte.
 // (utf8_vectors tries every pair of first bytes.)
-fn titles(image: &mut [u8]) {
-    made(image, b"", 0);
-    made(image, b"THIRTEEN BYTE\xc3\xa9", 0);
-    made(image, b"FOURTEEN BYTES\xc3", 0);
-    made(image, b"FIFTEEN BYTES A\x80", 0);
+fn titles(rt: &impl Print, image: &mut [u8]) -> io::Result<()> {
+    made(rt, image, b"", 0)?;
+    made(rt, image, b"THIRTEEN BYTE\xc3\xa9", 0)?;
+    made(rt, image, b"FOURTEEN BYTES\xc3", 0)?;
+    made(rt, image, b"FIFTEEN BYTES A\x80", 0)
 }
 
-fn zeros(image: &mut [u8; 0x8000]) {
-    every_type(image, b"TYPE");
+fn zeros(rt: &impl Print, image: &mut [u8; 0x8000]) -> io::Result<()> {
+    every_type(rt, image, b"TYPE")?;
     build::header(image, b"ts", 0);
-    every_cut(image);
-    titles(image);
+    every_cut(rt, image)?;
+    titles(rt, image)
 }
 
 // The next test passes with each.
 const CODES: [u32; 5] = [0x0B_FF_FF, 0x0B_01_FF, 0x0B_00_FF, 0x0B_00_02, 0x0B_00_00];
 
-fn every_code(image: &mut [u8]) {
-    let mut i: usize = 0;
-    while i < 5 {
-        build::codes(image, CODES[i]);
-        show(image);
-        i += 1;
+fn every_code(rt: &impl Print, image: &mut [u8]) -> io::Result<()> {
+    for code in CODES {
+        build::codes(image, code);
+        show(rt, image)?;
     }
+    Ok(())
 }
 
 // One image for each number from 2 on, in which every later test fails too where it can: 0xFF stands where nothing was put.
-fn ones(image: &mut [u8; 0x8000]) {
-    show(image);
+fn ones(rt: &impl Print, image: &mut [u8; 0x8000]) -> io::Result<()> {
+    show(rt, image)?;
     build::logo(image, 0);
-    show(image);
+    show(rt, image)?;
     build::set(image, 0x134, 0);
-    show(image);
-    every_code(image);
+    show(rt, image)?;
+    every_code(rt, image)?;
     build::fix(image);
-    show(image);
-    made(image, b"OK", 0x08_00_03);
+    show(rt, image)?;
+    made(rt, image, b"OK", 0x08_00_03)
 }
 
-fn main() {
+fn main(rt: HostRuntime) -> io::Result<()> {
     let mut image = [0u8; 0x8000];
-    zeros(&mut image);
+    zeros(&rt, &mut image)?;
     let mut other = [0xFFu8; 0x8000];
-    ones(&mut other);
+    ones(&rt, &mut other)
 }

@@ -1,17 +1,20 @@
 // The verdict on images of many sizes, up to 8,388,608 bytes and one more. header_lines has the recipe of an image and says what
-// a line tells. The one array that they are parts of stands on the stack, which needs more than the usual 8 MiB for it: the
-// Makefile raises the limit.
+// a line tells. The bytes that they are parts of stand on the heap: a stack has no room for them.
 #![tactic(auto)]
 
+ghost use Rattle.std.specs.Prelude.{◌≡◌, IfOk, vec_len};
+
 use header_lines::{build, cut, made, show};
+use std::alloc::{AllocError, Global};
+use std::io;
 
 // Length, type byte, ROM code and RAM code in one number.
-fn sized(image: &mut [u8], c: u64) {
-    let start: usize = 0;
+fn sized(rt: &impl Print, image: &mut [u8], c: u64) -> io::Result<()> {
     let len = (c / 0x1_000000) as usize;
     if len <= image.len() {
-        made(&mut image[start..len], b"SIZE", (c % 0x1_000000) as u32);
+        made(rt, &mut image[..len], b"SIZE", (c % 0x1_000000) as u32)?;
     }
+    Ok(())
 }
 
 // A byte too many; 512 banks: equal, mended by 128, not by 256, beyond MBC3, MBC1, MBC2 and no mapper; a byte less and a single
@@ -51,52 +54,53 @@ const SIZES: [u64; 30] = [
     0x8000_03_00_06,
 ];
 
-fn every_size(image: &mut [u8]) {
-    let mut i: usize = 0;
-    while i < 30 {
-        sized(image, SIZES[i]);
-        i += 1;
+fn every_size(rt: &impl Print, image: &mut [u8]) -> io::Result<()> {
+    for size in SIZES {
+        sized(rt, image, size)?;
     }
+    Ok(())
 }
 
 // The logos of the other quarters, one byte of them broken.
-fn broken(image: &mut [u8], place: usize) {
+fn broken(rt: &impl Print, image: &mut [u8], place: usize) -> io::Result<()> {
     build::logo(image, 1);
     build::logo(image, 2);
     build::logo(image, 3);
     build::set(image, place, 0);
-    sized(image, 0x100000_01_05_00);
+    sized(rt, image, 0x100000_01_05_00)
 }
 
 // Each later quarter broken, none (the byte behind a logo), another kind, a byte less, and a bank less.
-fn quarters(image: &mut [u8]) {
-    broken(image, 0x40104);
-    broken(image, 0x80120);
-    broken(image, 0xC0133);
-    broken(image, 0xC0134);
-    sized(image, 0x100000_19_05_00);
-    sized(image, 0xFFFFF_01_05_00);
-    sized(image, 0xFC000_01_05_00);
+fn quarters(rt: &impl Print, image: &mut [u8]) -> io::Result<()> {
+    broken(rt, image, 0x40104)?;
+    broken(rt, image, 0x80120)?;
+    broken(rt, image, 0xC0133)?;
+    broken(rt, image, 0xC0134)?;
+    sized(rt, image, 0x100000_19_05_00)?;
+    sized(rt, image, 0xFFFFF_01_05_00)?;
+    sized(rt, image, 0xFC000_01_05_00)
 }
 
 // A header in which every later test fails too where it can, with the byte too many and without it.
-fn spoilt(image: &mut [u8]) {
+fn spoilt(rt: &impl Print, image: &mut [u8]) -> io::Result<()> {
     build::put(image, 0x104, &[0xFF; 0x4C]);
-    show(image);
-    cut(image, 0x800000);
+    show(rt, image)?;
+    cut(rt, image, 0x800000)
 }
 
-fn all(image: &mut [u8; 0x800001]) {
-    every_size(image);
-    quarters(image);
-    spoilt(image);
+fn all(rt: &impl Print, image: &mut [u8]) -> io::Result<()> {
+    every_size(rt, image)?;
+    quarters(rt, image)?;
+    spoilt(rt, image)
 }
 
-fn zeros() -> [u8; 0x800001] {
-    [0; 0x800001]
+fn zeros(alloc: Global) -> Result<Vec<u8>, AllocError>
+    ensures { IfOk result (λ image. vec_len image ≡ 0x800001) }
+{
+    vec![in alloc; 0; 0x800001]
 }
 
-fn main() {
-    let mut image = zeros();
-    all(&mut image);
+fn main(rt: HostRuntime) -> io::Result<()> {
+    let mut image = zeros(rt.alloc())?;
+    all(&rt, image.as_mut_slice())
 }

@@ -7,36 +7,49 @@ use clock_block::Block;
 use facts::saturating_sub;
 use mount::{MountRefusal, Mounted};
 use save_flows::{Reading, Times, between, tables, timed};
+use std::io;
 
 // Saved into n bytes of this room, and the sum of all of it.
-fn room_of(rom: &[u8], ram: &mut [u8], codes: u32, room: &mut [u8], n: usize) {
-    let start: usize = 0;
+fn room_of(
+    rt: &impl Print,
+    rom: &[u8],
+    ram: &mut [u8],
+    codes: u32,
+    room: &mut [u8],
+    n: usize,
+) -> io::Result<()> {
     if room.len() < n {
-        return;
+        return Ok(());
     }
-    save_flows::first(rom, ram, &mut room[start..n], codes, &[], 1000);
-    number(b'A', bus_lines::sum(room));
+    save_flows::first(rt, rom, ram, &mut room[..n], codes, &[], 1000)?;
+    number(rt, b'A', bus_lines::sum(room))
 }
 
 fn mounted(rom: &[u8], ram: &mut [u8], n: usize) -> Mounted {
-    let start: usize = 0;
     if ram.len() < n {
         return Mounted::Refuse(MountRefusal::WrongArea);
     }
-    mount::mount(rom, &mut ram[start..n], 1000)
+    mount::mount(rom, &mut ram[..n], 1000)
 }
 
 // With this bank count and n bytes of the RAM lent; the cartridge is mounted with all but 512 of them.
-fn wrong(rom: &[u8], ram: &mut [u8], codes: u32, banks: u16, n: usize) {
+fn wrong(
+    rt: &impl Print,
+    rom: &[u8],
+    ram: &mut [u8],
+    codes: u32,
+    banks: u16,
+    n: usize,
+) -> io::Result<()> {
     if ram.len() < 512 {
-        return;
+        return Ok(());
     }
     let area = ram.len() - 512;
     let Mounted::To(cart) = mounted(rom, ram, area) else {
-        return;
+        return Ok(());
     };
-    bus_lines::heading(cart, codes);
-    save_lines::both(Cartridge { banks, ..cart }, ram, n, &mut [0xEE; 10]);
+    bus_lines::heading(rt, cart, codes)?;
+    save_lines::both(rt, Cartridge { banks, ..cart }, ram, n, &mut [0xEE; 10])
 }
 
 // A block saved at time 1000.
@@ -65,10 +78,18 @@ fn times(n: usize) -> Times {
 // More than any save has.
 const ALL: usize = 0x100000;
 
-fn made(rom: &[u8], ram: &mut [u8], codes: u32, what: u64, n: u64) {
+fn made(
+    rt: &impl Print,
+    rom: &[u8],
+    ram: &mut [u8],
+    codes: u32,
+    what: u64,
+    n: u64,
+) -> io::Result<()> {
     match (what / 0x100_0000_0000 % 256) as u8 {
         // A whole save, read at wall time n.
         b'W' => between(
+            rt,
             rom,
             ram,
             codes,
@@ -78,6 +99,7 @@ fn made(rom: &[u8], ram: &mut [u8], codes: u32, what: u64, n: u64) {
         ),
         // With offset n, at wall time 1000.
         b'O' => between(
+            rt,
             rom,
             ram,
             codes,
@@ -87,6 +109,7 @@ fn made(rom: &[u8], ram: &mut [u8], codes: u32, what: u64, n: u64) {
         ),
         // With offset n, and refused by a cartridge that has been filled.
         b'R' => between(
+            rt,
             rom,
             ram,
             codes,
@@ -96,6 +119,7 @@ fn made(rom: &[u8], ram: &mut [u8], codes: u32, what: u64, n: u64) {
         ),
         // Read by a cartridge in use.
         _ => between(
+            rt,
             rom,
             ram,
             codes,
@@ -106,27 +130,49 @@ fn made(rom: &[u8], ram: &mut [u8], codes: u32, what: u64, n: u64) {
     }
 }
 
-fn shown(rom: &[u8], ram: &mut [u8], codes: u32, what: u64, n: usize) {
+fn shown(
+    rt: &impl Print,
+    rom: &[u8],
+    ram: &mut [u8],
+    codes: u32,
+    what: u64,
+    n: usize,
+) -> io::Result<()> {
     match (what / 0x100_0000_0000 % 256) as u8 {
         // Filled through the bus, saved at wall time 1000, and read then.
-        b'P' => timed(rom, ram, codes, &[], Times(1000, 0, 0, 0)),
+        b'P' => timed(rt, rom, ram, codes, &[], Times(1000, 0, 0, 0)),
         // Filled, the clock at work on day 111, saved at wall time n, and read.
-        b'D' => timed(rom, ram, codes, &tables::DAY_111, times(n)),
+        b'D' => timed(rt, rom, ram, codes, &tables::DAY_111, times(n)),
         // The same on day 300, and saved while it is halted.
-        b'H' => timed(rom, ram, codes, &tables::DAY_300, times(n)),
+        b'H' => timed(rt, rom, ram, codes, &tables::DAY_300, times(n)),
         // The first n bytes of a save.
-        b'C' => between(rom, ram, codes, &[], Reading(block(what, 0), n, 1000), &[]),
+        b'C' => between(
+            rt,
+            rom,
+            ram,
+            codes,
+            &[],
+            Reading(block(what, 0), n, 1000),
+            &[],
+        ),
         // Filled, and saved into a room of n bytes.
-        b'S' => room_of(rom, ram, codes, &mut save_lines::room(), n),
+        b'S' => room_of(rt, rom, ram, codes, &mut save_lines::room(), n),
         // Saved and read with another number of banks, n bytes of RAM and ten of a save.
-        _ => wrong(rom, ram, codes, (what % 65536) as u16, n),
+        _ => wrong(rt, rom, ram, codes, (what % 65536) as u16, n),
     }
 }
 
 // What a case goes through: a letter and the day, hour, minute and second of a block, as 0x57_012C_08_09_0A, and a number n.
-pub fn show(rom: &[u8], ram: &mut [u8], codes: u32, what: u64, n: u64) {
+pub fn show(
+    rt: &impl Print,
+    rom: &[u8],
+    ram: &mut [u8],
+    codes: u32,
+    what: u64,
+    n: u64,
+) -> io::Result<()> {
     match (what / 0x100_0000_0000 % 256) as u8 {
-        b'W' | b'O' | b'R' | b'U' => made(rom, ram, codes, what, n),
-        _ => shown(rom, ram, codes, what, (n % 0x1_0000_0000) as usize),
+        b'W' | b'O' | b'R' | b'U' => made(rt, rom, ram, codes, what, n),
+        _ => shown(rt, rom, ram, codes, what, (n % 0x1_0000_0000) as usize),
     }
 }

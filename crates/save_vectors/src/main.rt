@@ -9,40 +9,62 @@
 
 mod rows;
 
+ghost use Rattle.std.specs.Prelude.{◌≡◌, IfOk, vec_len};
+
 use bus_recipe::build;
+use std::alloc::{AllocError, Global};
+use std::io;
 
 // The parts of the image and of the RAM that the case lends: it is the RAM area's length in units of 512 bytes, the image's length,
 // and its type byte, ROM code and RAM code.
-fn cut(image: &[u8], ram: &mut [u8], case: u64, what: u64, n: u64) {
-    let start: usize = 0;
+fn cut(
+    rt: &impl Print,
+    image: &[u8],
+    ram: &mut [u8],
+    case: u64,
+    what: u64,
+    n: u64,
+) -> io::Result<()> {
     let len = (case / 0x1000000 % 0x1000000) as usize;
     let area = (case / 0x1_0000_0000_0000 * 512) as usize;
     if image.len() < len {
-        return;
+        return Ok(());
     }
     if ram.len() < area {
-        return;
+        return Ok(());
     }
     let codes = (case % 0x1000000) as u32;
-    save_cases::show(&image[start..len], &mut ram[start..area], codes, what, n);
+    save_cases::show(rt, &image[..len], &mut ram[..area], codes, what, n)
 }
 
-fn all(image: &mut [u8; 0x800000], ram: &mut [u8; 0x20200], rows: &[u64]) {
+fn all(
+    rt: &impl Print,
+    image: &mut [u8; 0x800000],
+    ram: &mut [u8; 0x20200],
+    rows: &[u64],
+) -> io::Result<()> {
     let mut i: usize = 0;
     while 3 <= rows.len() - i {
         build::header(image, rows[i]);
-        cut(image, ram, rows[i], rows[i + 1], rows[i + 2]);
+        cut(rt, image, ram, rows[i], rows[i + 1], rows[i + 2])?;
         i += 3;
     }
+    Ok(())
 }
 
-fn blank() -> [u8; 0x800000] {
-    [0; 0x800000]
+// On the heap: a stack has no room for it.
+fn blank(alloc: Global) -> Result<Vec<u8>, AllocError>
+    ensures { IfOk result (λ image. vec_len image ≡ 0x800000) }
+{
+    vec![in alloc; 0; 0x800000]
 }
 
-fn main() {
-    let mut image = blank();
+fn main(rt: HostRuntime) -> io::Result<()> {
+    let mut bytes = blank(rt.alloc())?;
+    let Some(image) = bytes.as_mut_slice().as_mut_array() else {
+        unreachable!()
+    };
     let mut ram = [0u8; 0x20200];
-    build::fill(&mut image);
-    all(&mut image, &mut ram, &rows::ROWS);
+    build::fill(image);
+    all(&rt, image, &mut ram, &rows::ROWS)
 }

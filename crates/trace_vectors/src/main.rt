@@ -2,93 +2,86 @@
 // lines are by the rule alone.
 #![tactic(auto)]
 
-use libc::STDOUT_FILENO;
+use std::io;
 use trace::{Next, Record, TraceRefusal};
 
-fn number(n: u64) {
-    io::write_all(STDOUT_FILENO, b" ");
-    io::print_decimal(STDOUT_FILENO, n);
+fn number(rt: &impl Print, n: u64) -> io::Result<()> {
+    print!(rt; " {n}")
 }
 
-fn address(letter: u8, addr: u16) {
-    io::write_all(STDOUT_FILENO, &[b' ', letter, b' ']);
-    io::print_hex(STDOUT_FILENO, addr as u64, 4);
+fn address(rt: &impl Print, letter: char, addr: u16) -> io::Result<()> {
+    print!(rt; " {letter} {addr:04x}")
 }
 
-fn record(r: Record) {
+fn record(rt: &impl Print, r: Record) -> io::Result<()> {
     match r {
-        Record::Read { addr } => address(b'R', addr),
+        Record::Read { addr } => address(rt, 'R', addr),
         Record::Write { addr, byte } => {
-            address(b'W', addr);
-            io::write_all(STDOUT_FILENO, b" ");
-            io::print_hex(STDOUT_FILENO, byte as u64, 2);
+            address(rt, 'W', addr)?;
+            print!(rt; " {byte:02x}")
         }
         Record::Clocks { count } => {
-            io::write_all(STDOUT_FILENO, b" C");
-            number(count as u64);
+            print!(rt; " C")?;
+            number(rt, count as u64)
         }
     }
 }
 
-fn refused(why: TraceRefusal) {
-    io::write_all(STDOUT_FILENO, b" T");
-    number(why.number() as u64);
-    number(why.place() as u64);
-    io::write_all(STDOUT_FILENO, b"\n");
+fn refused(rt: &impl Print, why: TraceRefusal) -> io::Result<()> {
+    print!(rt; " T")?;
+    number(rt, why.number() as u64)?;
+    number(rt, why.place() as u64)?;
+    println!(rt)
 }
 
 // The records from a place on.
-fn from(bytes: &[u8], start: usize) {
-    io::print_decimal(STDOUT_FILENO, bytes.len() as u64);
+fn from(rt: &impl Print, bytes: &[u8], start: usize) -> io::Result<()> {
+    let length = bytes.len();
+    print!(rt; "{length}")?;
     let mut at = start;
     loop {
         match trace::next_record(bytes, at) {
             Next::Found(r, after) => {
-                record(r);
+                record(rt, r)?;
                 at = after;
             }
-            Next::End => {
-                io::write_all(STDOUT_FILENO, b" end\n");
-                return;
-            }
-            Next::Refuse(why) => {
-                refused(why);
-                return;
-            }
+            Next::End => return println!(rt; " end"),
+            Next::Refuse(why) => return refused(rt, why),
         }
     }
 }
 
 // The trace cut behind each of its bytes, and whole.
-fn cuts(bytes: &[u8]) {
-    let start: usize = 0;
-    let mut n: usize = 0;
-    while n <= bytes.len() {
-        from(&bytes[start..n], 0);
-        n += 1;
+fn cuts(rt: &impl Print, bytes: &[u8]) -> io::Result<()> {
+    for n in 0..=bytes.len() {
+        from(rt, &bytes[..n], 0)?;
     }
+    Ok(())
 }
 
 // A read, and then two bytes that may be no mark, with a body behind them.
-fn mark(first: u8, second: u8) {
-    from(&[0x52, 0x44, 0x34, 0x12, first, second, 1, 2, 3, 4], 0);
+fn mark(rt: &impl Print, first: u8, second: u8) -> io::Result<()> {
+    from(rt, &[0x52, 0x44, 0x34, 0x12, first, second, 1, 2, 3, 4], 0)
 }
 
 // First the example of Trace 9. The marks are `RD`, `WR` and `CK` in letters.
-fn main() {
-    cuts(b"WR\x00\x00\x0AWR\x00\xA0\x5CRD\x00\xA0CK\x05\x00\x00\x00RD\x00\x80");
-    mark(0x52, 0x44);
-    mark(0x57, 0x52);
-    mark(0x43, 0x4B);
-    mark(0x44, 0x52);
-    mark(0x52, 0x57);
-    mark(0x4B, 0x43);
-    mark(0x52, 0x52);
-    mark(0x57, 0x44);
-    mark(0x43, 0x4C);
-    mark(0x00, 0x00);
-    mark(0xFF, 0xFF);
-    from(b"CK\xFF\xFF\xFF\xFFWR\xFF\xFE\xFD", 0);
-    from(b"RD\x00\x00", 5);
-    from(b"RD\x00\x00", 0xFFFFFFFFFFFFFFFF);
+fn main(rt: HostRuntime) -> io::Result<()> {
+    cuts(
+        &rt,
+        b"WR\x00\x00\x0AWR\x00\xA0\x5CRD\x00\xA0CK\x05\x00\x00\x00RD\x00\x80",
+    )?;
+    mark(&rt, 0x52, 0x44)?;
+    mark(&rt, 0x57, 0x52)?;
+    mark(&rt, 0x43, 0x4B)?;
+    mark(&rt, 0x44, 0x52)?;
+    mark(&rt, 0x52, 0x57)?;
+    mark(&rt, 0x4B, 0x43)?;
+    mark(&rt, 0x52, 0x52)?;
+    mark(&rt, 0x57, 0x44)?;
+    mark(&rt, 0x43, 0x4C)?;
+    mark(&rt, 0x00, 0x00)?;
+    mark(&rt, 0xFF, 0xFF)?;
+    from(&rt, b"CK\xFF\xFF\xFF\xFFWR\xFF\xFE\xFD", 0)?;
+    from(&rt, b"RD\x00\x00", 5)?;
+    from(&rt, b"RD\x00\x00", 0xFFFFFFFFFFFFFFFF)
 }

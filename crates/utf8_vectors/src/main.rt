@@ -4,7 +4,7 @@
 
 ghost use Rattle.std.specs.Prelude.{◌≤◌};
 
-use libc::STDOUT_FILENO;
+use std::io;
 
 fn taken(first: u8, second: u8, n: usize) -> u32
     ensures { result ≤ 1 }
@@ -19,31 +19,27 @@ fn taken(first: u8, second: u8, n: usize) -> u32
 
 fn count(first: u8, n: usize) -> u32 {
     let mut passed: u32 = 0;
-    let mut b: u32 = 0;
-    while b < 256 {
-        passed = passed % 256 + taken(first, (b % 256) as u8, n);
-        b += 1;
+    for b in 0..=255u8 {
+        passed = passed % 256 + taken(first, b, n);
     }
     passed
 }
 
-fn show(mark: u8, n: u32) {
-    io::write_all(STDOUT_FILENO, &[mark]);
-    io::print_decimal(STDOUT_FILENO, n as u64);
+fn show(rt: &impl Print, mark: char, n: u32) -> io::Result<()> {
+    print!(rt; "{mark}{n}")
 }
 
-fn line(first: u8) {
-    show(b' ', count(first, 1));
-    show(b' ', count(first, 2));
-    show(b' ', count(first, 3));
-    show(b' ', count(first, 4));
-    io::write_all(STDOUT_FILENO, b"\n");
+fn line(rt: &impl Print, first: u8) -> io::Result<()> {
+    show(rt, ' ', count(first, 1))?;
+    show(rt, ' ', count(first, 2))?;
+    show(rt, ' ', count(first, 3))?;
+    show(rt, ' ', count(first, 4))?;
+    println!(rt)
 }
 
-fn main() {
-    let mut b: u32 = 0;
-    while b < 256 {
-        line((b % 256) as u8);
-        b += 1;
+fn main(rt: HostRuntime) -> io::Result<()> {
+    for b in 0..=255u8 {
+        line(&rt, b)?;
     }
+    Ok(())
 }
