@@ -2,10 +2,12 @@
 // them. No byte of the text is chosen here.
 #![tactic(auto)]
 
-ghost use Rattle.std.specs.Prelude.{◌≡◌, ◌≤◌, length};
+ghost use Rattle.std.specs.Prelude.{◌≡◌, ◌≤◌, length, IfOk};
 
-use libc::STDOUT_FILENO;
 use replay_program::File;
+use std::io::Read;
+use std::rt::Files;
+use std::{fs, io};
 
 // A file, and how many bytes of its room are its own.
 #[derive(Drop)]
@@ -39,22 +41,31 @@ fn text_room() -> [u8; 41008]
     [0; 41008]
 }
 
-// A file read into the room. One that was read whole leaves nothing to read behind it.
-fn fetch(path: &[u8], room: &mut [u8]) -> Fetched
+// Read until the room is full or nothing is left to read; how many bytes came.
+fn read_full(reader: &mut impl Read, room: &mut [u8]) -> io::Result<usize>
+    ensures { IfOk result (λ count. count ≤ length room.old) }
+{
+    let mut count: usize = 0;
+    while count < room.len() {
+        let n = reader.read(&mut room[count..])?;
+        if n == 0 {
+            break;
+        }
+        count += n;
+    }
+    Ok(count)
+}
+
+// A file read into the room. One that was read whole leaves nothing to read behind it. A path that is no UTF-8 names no file.
+fn fetch(rt: &impl Files, path: &[u8], room: &mut [u8]) -> Fetched
     ensures { result.count ≤ length room.old }
 {
-    let fd = os::open_read(path);
-    if fd < 0 {
-        return Fetched {
-            file: File::Missing,
-            count: 0,
-        };
-    }
-    let count = io::read_full(fd, room);
     let mut more = [0u8; 1];
-    let behind = libc::read(fd, &mut more);
-    libc::close(fd);
-    if behind == 0 {
+    if let Ok(path) = str::from_utf8(path)
+        && let Ok(mut file) = fs::open(rt, path)
+        && let Ok(count) = read_full(&mut file, room)
+        && let Ok(0) = file.read(&mut more)
+    {
         return Fetched {
             file: File::Whole,
             count,
@@ -66,25 +77,24 @@ fn fetch(path: &[u8], room: &mut [u8]) -> Fetched
     }
 }
 
-pub fn run(rom_path: &[u8], trace_path: &[u8]) {
-    let start: usize = 0;
+pub fn run(rt: &(impl Print + Files), rom_path: &[u8], trace_path: &[u8]) -> io::Result<()> {
     let mut image = image_room();
     let mut trace = trace_room();
     let mut ram = ram_room();
     let mut text = text_room();
-    let rom = fetch(rom_path, &mut image);
-    let records = fetch(trace_path, &mut trace);
+    let rom = fetch(rt, rom_path, &mut image);
+    let records = fetch(rt, trace_path, &mut trace);
     let of_rom = rom.file;
     let i = rom.count;
     let of_records = records.file;
     let j = records.count;
     let n = replay_program::write(
         of_rom,
-        &image[start..i],
+        &image[..i],
         of_records,
-        &trace[start..j],
+        &trace[..j],
         &mut ram,
         &mut text,
     );
-    io::write_all(STDOUT_FILENO, &text[start..n]);
+    rt.write_all(&text[..n])
 }
