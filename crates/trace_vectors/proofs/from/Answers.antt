@@ -1,0 +1,8 @@
+use Rattle.std.proofs.Common.{arith, sym}
+use Rattle.trace.proofs.Records.{progress}
+use Rattle.trace_vectors.proofs.from.Goals as goal
+
+pub loop-r-smaller : goal.loop-r-smaller
+loop-r-smaller g c =
+    let p = progress c.args.bytes.now c.loop-r.at (sym c.in-Found.ensures) in
+    omega (arith, p.0, p.1)
