@@ -41,7 +41,7 @@ from_below_answer k a x y s t p q =
 pub title_answer : Shows title.Learnt (λ k r. r.now)
 title_answer k a x y s t p q = coincide p.0 q.0
 
-pub title_place : Shows title.Learnt (λ k r. r.ptr)
+pub title_place : Shows title.Learnt (λ k r. r.ref_ptr)
 title_place k a x y s t p q = coincide p.1 q.1
 
 -- `digits` and `lines`: the place behind the text, and the room
