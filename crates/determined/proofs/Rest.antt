@@ -4,7 +4,6 @@ use mathlib.Core.Path.{◌≡◌, ap, ◌∙◌}
 use Prim.Native.Nat.{ℕ}
 use seplogic.Ra.Ura.{Ura}
 use base.Logic.{ent}
-use prog.Wp.{Heap}
 use contract.Monad.{conj, conj_l, conj_r, fact, fact_i, fact_use}
 use Rattle.facts.proofs.ChoiceLaws.{coincide}
 use Rattle.facts.proofs.from_below.Reads as from-below
@@ -112,11 +111,11 @@ both_hold 𝓤 {x = x} {y = y} d =
     let Q = fact 𝓤 (y ≡ d) in
     fact_use 𝓤 (x ≡ d) (conj_l 𝓤 P Q) (λ p. fact_use 𝓤 (y ≡ d) (conj_r 𝓤 P Q) (λ q. fact_i 𝓤 (x ≡ y) (conj 𝓤 P Q) (coincide p q)))
 
-pub reader_new_answer : {M : Type 1} (𝓤 : Ura M) (H : Heap 𝓤) → Determined 𝓤 reader-new.ended (reader-new.clauses {𝓤 = 𝓤} _)
-reader_new_answer 𝓤 H 𝓛 mem run κs a g x y s t = both_hold 𝓤 _
+pub reader_new_answer : {M : Type 1} (𝓤 : Ura M) → Determined 𝓤 reader-new.ended (reader-new.clauses {𝓤 = 𝓤})
+reader_new_answer 𝓤 𝓛 mem run κs a g x y s t = both_hold 𝓤 _
 
-pub reader_moved_answer : {M : Type 1} (𝓤 : Ura M) (H : Heap 𝓤) → Determined 𝓤 reader-moved.ended (reader-moved.clauses {𝓤 = 𝓤} _)
-reader_moved_answer 𝓤 H 𝓛 mem run κs a g x y s t = both_hold 𝓤 _
+pub reader_moved_answer : {M : Type 1} (𝓤 : Ura M) → Determined 𝓤 reader-moved.ended (reader-moved.clauses {𝓤 = 𝓤})
+reader_moved_answer 𝓤 𝓛 mem run κs a g x y s t = both_hold 𝓤 _
 
-pub reader_next_answer : {M : Type 1} (𝓤 : Ura M) (H : Heap 𝓤) → Determined 𝓤 reader-next.ended (reader-next.clauses {𝓤 = 𝓤} _)
-reader_next_answer 𝓤 H 𝓛 mem run κs a g x y s t = both_hold 𝓤 _
+pub reader_next_answer : {M : Type 1} (𝓤 : Ura M) → Determined 𝓤 reader-next.ended (reader-next.clauses {𝓤 = 𝓤})
+reader_next_answer 𝓤 𝓛 mem run κs a g x y s t = both_hold 𝓤 _
