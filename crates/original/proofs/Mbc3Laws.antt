@@ -21,7 +21,7 @@ use Rattle.timer.specs.Advance as timer
 use Rattle.timer.specs.ClockWindow.{on_clock, window_read, clock_or, window_written}
 use Rattle.timer.proofs.WindowLaws.{on_timer, read_off, written_there}
 use Rattle.bus.specs.Run.{clocks}
-use Rattle.original.specs.Machine.{Outcome, ok, bind, sub, u64}
+use Rattle.original.specs.Machine.{Outcome, ok, bind, u64}
 use Rattle.original.specs.MappingResult.{MappingResult}
 use Rattle.original.specs.Rtc.{RtcRegister, default, read_register, write_register, set_latch}
 use Rattle.original.specs.Mbc3.{Mbc3, new, init, map_ram_read, map_ram_write, write_bank_controller_register}

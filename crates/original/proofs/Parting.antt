@@ -8,7 +8,6 @@ use Rattle.facts.specs.Counter.{carries, step, step_if}
 use Rattle.facts.proofs.ChoiceLaws.{false≢true}
 use Rattle.clock_registers.specs.Fit as registers-fit
 use Rattle.clock_registers.specs.Seconds.{second_on, seconds_on}
-use Rattle.clock_registers.specs.Access.{registers}
 use Rattle.clock.specs.Access.{shown_of, written_of, latched_of}
 use Rattle.clock.specs.Fit.{fit_clock}
 use Rattle.clock.specs.Ticking.{moving, tick, ticks}

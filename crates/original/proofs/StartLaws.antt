@@ -28,7 +28,6 @@ use Rattle.runs.proofs.BusLaws.{mount_taken}
 use Rattle.original.specs.Machine.{Outcome}
 use Rattle.original.specs.Mbc3 as mbc3
 use Rattle.original.specs.Mapper as original
-use Rattle.original.specs.Cartridge.{Cartridge}
 use Rattle.original.specs.Same.{mbc2_of, SameMapper, Same}
 use Rattle.original.specs.Verdict.{mapper_of, value_or, mbc3_start, cartridge_of}
 use Rattle.original.specs.Domain.{since}

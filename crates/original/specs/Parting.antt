@@ -8,7 +8,6 @@ use Rattle.clock.specs.declared.Clock.{Clock}
 use Rattle.mbc3.specs.Registers as mbc3
 use Rattle.mbc3.specs.declared.Mbc3 as declared
 use Rattle.mapper.specs.declared.Mapper.TheVariants.{Mbc3}
-use Rattle.cartridge.specs.declared.Cartridge.{Cartridge}
 use Rattle.bus.specs.Run.{Access, reads, writes, clocks, Answer, gave, took, refused, Machine, run_of, Ready}
 use Rattle.runs.specs.Padded.{padded}
 use Rattle.original.specs.Machine.{Outcome, ok, panic, bind}

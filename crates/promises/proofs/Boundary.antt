@@ -32,7 +32,6 @@ use Rattle.mount.specs.Mount as mount
 use Rattle.mount.specs.declared.Mounted.{Mounted}
 use Rattle.mount.specs.declared.Mounted.TheVariants as mounted
 use Rattle.access.specs.Verdict.{in_ram}
-use Rattle.access.specs.declared.BusRefusal.TheVariants.{BadAddress}
 use Rattle.bus.specs.Bus as bus
 use Rattle.bus.specs.Advance as advance
 use Rattle.bus.specs.Run.{Ready}

@@ -1,5 +1,5 @@
 -- The exported calls on any bytes at all: those of a fit cartridge, in the library's own form or not, and all others.
-use mathlib.Core.Bool.{Bool, false, not}
+use mathlib.Core.Bool.{Bool, false}
 use mathlib.Core.List.{List}
 use mathlib.Core.Path.{◌≡◌, refl, sym, ap, ◌∙◌, subst}
 use Prim.Native.Nat.{ℕ}

@@ -1,6 +1,6 @@
 -- `digits::put_digits` meets its contract: what is still to be written is the digits of the rest.
 use mathlib.Core.Path.{◌≡◌}
-use Prim.Native.Nat.{◌-◌, ◌≤◌}
+use Prim.Native.Nat.{◌≤◌}
 use lib.ListN.{length}
 use lib.Seq.{sets}
 use Rattle.digits.specs.Digits.{digits_of}

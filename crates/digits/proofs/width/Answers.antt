@@ -1,6 +1,5 @@
 -- `digits::width` meets its contract: each division by ten is a digit more.
 use mathlib.Core.Path.{refl}
-use Prim.Native.Nat.{◌-◌}
 use native.Mathlib.Omega.{arith}
 use Rattle.digits.proofs.Laws.{width_one, width_more, width_fewest}
 use Rattle.digits.proofs.width.Goals as goal

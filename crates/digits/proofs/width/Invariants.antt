@@ -1,6 +1,6 @@
 -- `digits::width` meets its contract: each division by ten is a digit more.
 use mathlib.Core.Path.{◌≡◌}
-use Prim.Native.Nat.{◌+◌, ◌-◌, ◌≤◌}
+use Prim.Native.Nat.{◌+◌, ◌≤◌}
 use Rattle.digits.specs.Digits.{width_of}
 use Rattle.digits.proofs.width.Given as goal
 

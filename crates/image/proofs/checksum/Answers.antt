@@ -1,5 +1,5 @@
 -- `image::checksum` meets its contract: what is left of 0 after i bytes.
-use Rattle.std.proofs.Common.{◌-◌, arith, rules}
+use Rattle.std.proofs.Common.{arith, rules}
 use Rattle.image.proofs.ImageLaws.{left_none, left_more, left_all}
 use Rattle.image.proofs.checksum.Goals as goal
 

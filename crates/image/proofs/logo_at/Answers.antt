@@ -1,5 +1,5 @@
 -- `image::logo_at` meets its contract: the bytes before i agree.
-use Rattle.std.proofs.Common.{◌-◌, arith}
+use Rattle.std.proofs.Common.{arith}
 use Rattle.image.proofs.ImageLaws.{logo_start, logo_differs, logo_agrees, logo_whole}
 use Rattle.image.proofs.logo_at.Goals as goal
 

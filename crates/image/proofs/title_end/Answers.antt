@@ -1,5 +1,5 @@
 -- `image::title_end` meets its contract: the title's bytes before e are passed.
-use Rattle.std.proofs.Common.{◌-◌, arith}
+use Rattle.std.proofs.Common.{arith}
 use Rattle.image.proofs.ImageLaws.{before_none, ends, at_end, at_limit, at_zero, passes_on}
 use Rattle.image.proofs.title_end.Goals as goal
 

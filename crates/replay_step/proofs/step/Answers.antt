@@ -10,7 +10,7 @@ returns-in-Read c =
     let p = c.read.ensures in
     let said = stepped a.rom.now (machine a.cart a.ram.now) 10
     c.in-Read.is p.did p.upper_bound (omega arith) in
-    record { did = said.0; end_bound = said.1; }
+    record { did = said.0; end_bound = said.1 }
 
 pub returns-in-Write : goal.returns-in-Write
 returns-in-Write c =
@@ -18,7 +18,7 @@ returns-in-Write c =
     let p = c.write.ensures in
     let said = stepped a.rom.now (machine a.cart a.ram.now) 10
     c.in-Write.is p.did p.end_bound (omega arith) in
-    record { did = said.0; end_bound = said.1; }
+    record { did = said.0; end_bound = said.1 }
 
 pub returns-in-Clocks : goal.returns-in-Clocks
 returns-in-Clocks c =
@@ -26,4 +26,4 @@ returns-in-Clocks c =
     let p = c.advance.ensures in
     let said = stepped a.rom.now (machine a.cart a.ram.now) 13 c.in-Clocks.is
     (p.by_index a.ram.now) p.end_bound (omega arith) in
-    record { did = said.0; end_bound = said.1; }
+    record { did = said.0; end_bound = said.1 }

@@ -1,6 +1,6 @@
 -- `replay_text::run` meets its contract: at each turn, what is still to be done gives the whole.
 use mathlib.Core.Path.{sym, ◌∙◌}
-use Prim.Native.Nat.{◌-◌, zero-le}
+use Prim.Native.Nat.{zero-le}
 use native.Mathlib.Omega.{arith}
 use borrow.Author.Rules.{rules}
 use Rattle.trace.proofs.Records.{progress, place_refused}

@@ -1,5 +1,4 @@
 -- `slow_clock::seconds` meets its contract: it ends.
-use Prim.Native.Nat.{◌-◌}
 use native.Mathlib.Omega.{arith}
 use Rattle.slow_clock.proofs.seconds.Goals as goal
 

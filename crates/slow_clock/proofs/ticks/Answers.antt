@@ -1,5 +1,4 @@
 -- `slow_clock::ticks` meets its contract: it ends.
-use Prim.Native.Nat.{◌-◌}
 use native.Mathlib.Omega.{arith}
 use Rattle.slow_clock.proofs.ticks.Goals as goal
 

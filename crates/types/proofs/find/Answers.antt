@@ -1,5 +1,4 @@
 -- `types::find` meets its contract: the search of the whole table is the search of its rest.
-use Prim.Native.Nat.{◌-◌}
 use mathlib.Core.Path.{refl}
 use native.Mathlib.Omega.{arith}
 use Rattle.types.specs.Types.{type_of}

@@ -1,5 +1,4 @@
 -- `utf8::is_utf8` meets its contract: the bytes before i are read.
-use Prim.Native.Nat.{◌-◌}
 use native.Mathlib.Omega.{arith}
 use Rattle.utf8.specs.Utf8.{pending}
 use Rattle.utf8.proofs.ReaderLaws.{starts, goes_on, ends}

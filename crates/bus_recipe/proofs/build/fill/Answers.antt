@@ -1,5 +1,4 @@
 -- `bus_recipe::build::fill` meets its contract: it ends.
-use Prim.Native.Nat.{◌-◌}
 use native.Mathlib.Omega.{arith}
 use Rattle.bus_recipe.proofs.build.fill.Goals as goal
 

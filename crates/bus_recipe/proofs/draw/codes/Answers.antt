@@ -1,5 +1,4 @@
 -- `bus_recipe::draw::codes` meets its contract: it ends.
-use Prim.Native.Nat.{◌-◌}
 use native.Mathlib.Omega.{arith}
 use Rattle.bus_recipe.proofs.draw.codes.Goals as goal
 
