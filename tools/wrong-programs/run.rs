@@ -58,8 +58,8 @@ impl Run {
         Ok(Run { top, room, logs, crates, prover: Prover::new(), folders, tally: Mutex::default() })
     }
 
-    /// Tries all edits of these crates, or of all crates: first those that change their own crate alone, all in one copy, and then, as many at a time as
-    /// there are hands, those that change crates below it, each in a copy of its own.
+    /// Tries all edits of these crates, or of all crates: first those that change their own crate alone, all in one copy, in which every one of the crates
+    /// must be proved as it stands; and then, as many at a time as there are hands, those that change crates below it, each in a copy of its own.
     pub fn go(&self, named: &[String], hands: usize) -> io::Result<Tally> {
         let (mut own, mut others) = (Vec::new(), Vec::new());
         for name in self.with_edits(named)? {
@@ -71,9 +71,8 @@ impl Run {
                 }
             }
         }
-        if !own.is_empty() {
-            self.try_own(&own)?;
-        }
+        let proved = self.try_own(&own, others.iter().map(|edit| &edit.of))?;
+        others.retain(|edit| proved.contains(&edit.of) || self.not_tried(edit));
         others.reverse();
         let left = Mutex::new(others);
         let next = || left.lock().unwrap().pop();
@@ -177,12 +176,16 @@ impl Run {
         Ok(Edit { of: name.to_string(), label: label(path), text, changes })
     }
 
-    /// Tries edits that change their own crate alone: `rt ci` takes them for must-fail edits.
-    fn try_own(&self, edits: &[Edit]) -> io::Result<()> {
+    /// Tries edits that change their own crate alone: `rt ci` takes them for must-fail edits. Which of these crates and of those further named it proves as
+    /// they stand.
+    fn try_own<'a>(&self, edits: &'a [Edit], named: impl Iterator<Item = &'a String>) -> io::Result<BTreeSet<String>> {
         let copy = self.room.join("own");
-        let crates: BTreeSet<&String> = edits.iter().map(|edit| &edit.of).collect();
-        println!("wrong: {} wrong programs of {} crates", edits.len(), crates.len());
-        folder::repository(&self.top, &copy, &self.crates, &self.crates.with_below(crates.into_iter()))?;
+        let crates: BTreeSet<&String> = edits.iter().map(|edit| &edit.of).chain(named).collect();
+        if crates.is_empty() {
+            return Ok(BTreeSet::new());
+        }
+        println!("wrong: {} wrong programs that change their own crate", edits.len());
+        folder::repository(&self.top, &copy, &self.crates, &self.crates.with_below(crates.iter().copied()))?;
         for edit in edits {
             let folder = copy.join("crates").join(&edit.of).join("must-fail");
             fs::create_dir_all(&folder)?;
@@ -194,11 +197,18 @@ impl Run {
         let said = String::from_utf8_lossy(&fs::read(log)?).to_string();
         for edit in edits {
             let told = format!("rt: must-fail {}/{}.edit: ", edit.of, edit.label);
-            let how = said.lines().find_map(|line| line.strip_prefix(&told));
-            let nothing = || Err(format!("not tried: {} is not proved as it stands, or `rt ci` did not end (target/wrong-programs/rt-ci.log)", edit.of));
-            self.tell(&edit.of, &edit.label, how.map_or_else(nothing, |how| judged(verdict::of_edit(how))));
+            match said.lines().find_map(|line| line.strip_prefix(&told)) {
+                Some(how) => self.tell(&edit.of, &edit.label, judged(verdict::of_edit(how))),
+                None => drop(self.not_tried(edit)),
+            }
         }
-        Ok(())
+        Ok(crates.into_iter().filter(|name| is_proved(&said, name)).cloned().collect())
+    }
+
+    /// Counts an edit of a crate that is not proved as it stands. Answers false.
+    fn not_tried(&self, edit: &Edit) -> bool {
+        self.tell(&edit.of, &edit.label, Err(format!("not tried: {} is not proved as it stands (target/wrong-programs/rt-ci.log)", edit.of)));
+        false
     }
 
     /// Tries an edit that changes crates below its own: those that stand between must all be proved with it, and its own alone be refused.
@@ -208,16 +218,12 @@ impl Run {
         let _ = fs::remove_dir_all(&copy);
         let said = said?;
         for library in self.crates.below(&edit.of) {
-            if said.lines().any(|line| line.starts_with(&format!("rt: {library} NOT PROVED"))) {
+            if self.crate_folder(library).is_dir() && !is_proved(&said, library) {
                 return Err(format!("bad edit: {library}, below {}, is not proved with it", edit.of));
             }
         }
-        let ended = |how: &str| said.lines().any(|line| line.starts_with(&format!("rt: {} {how}", edit.of)));
-        if ended("proved") || ended("is kept") {
+        if is_proved(&said, &edit.of) {
             return judged(Verdict::Survived);
-        }
-        if !ended("NOT PROVED") {
-            return judged(Verdict::Unreached(said.lines().last().unwrap_or("nothing was said").to_string()));
         }
         judged(verdict::of_check(section(&said, &edit.of)))
     }
@@ -257,6 +263,11 @@ fn label(path: &Path) -> String {
     path.file_stem().map_or_else(String::new, |stem| stem.to_string_lossy().to_string())
 }
 
+/// Whether a log of `rt ci` says that a crate is proved, now or before.
+fn is_proved(said: &str, name: &str) -> bool {
+    said.lines().any(|line| line == format!("rt: {name} proved") || line.starts_with(&format!("rt: {name} is kept: ")))
+}
+
 /// What a log of `rt ci` says of a crate's check.
 fn section<'a>(said: &'a str, name: &str) -> &'a str {
     let head = format!("== {name}\n");
@@ -278,6 +289,12 @@ fn judged(verdict: Verdict) -> Result<String, String> {
 #[cfg(test)]
 mod tests {
     use super::*;
+
+    #[test]
+    fn a_crate_is_proved_now_or_before() {
+        let said = "rt: a is kept: an earlier run proved it\n== b\nrt: b proved\nrt: c NOT PROVED\nrt: e: its tests are proved\n";
+        assert_eq!(["a", "b", "c", "d", "e"].map(|name| is_proved(said, name)), [true, true, false, false, false]);
+    }
 
     #[test]
     fn a_section_ends_where_rt_tells_how_it_ended() {
