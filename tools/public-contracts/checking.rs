@@ -5,6 +5,9 @@ use crate::repository::Public;
 use crate::statements::Stated;
 use std::collections::{BTreeMap, BTreeSet};
 
+/// Names of clauses, each with what it stands for.
+pub type Words = BTreeSet<(String, String)>;
+
 /// How many are stated, how many functions are excepted, and what is wrong.
 #[derive(Debug, Default, PartialEq)]
 pub struct Found {
@@ -42,6 +45,20 @@ pub fn checked(publics: &[Public], stated: &BTreeSet<Stated>, exceptions: &[Exce
     }
     found.wrong.extend(excepted.keys().map(|name| format!("{name} is excepted, and is no public function")));
     found
+}
+
+/// Whether a function of a static library says what the one of its name says that it stands for, among those of the crates below: the same contract, word
+/// for word, in words that it brings in from the same places.
+pub fn exported(export: &Public, below: &[Public], words: &Words, words_of: impl Fn(&str) -> Words) -> Result<(), String> {
+    let named = |public: &&Public| public.function.path == export.function.path;
+    let own = below.iter().find(named).ok_or_else(|| format!("{} is exported, and no crate below has a function of its name", export.name()))?;
+    if own.function.contract != export.function.contract {
+        return Err(format!("the contract of {} is not that of {}", export.name(), own.name()));
+    }
+    match words.difference(&words_of(&own.of)).next() {
+        Some((name, whole)) => Err(format!("{} brings in {name} as {whole}, and {} does not", export.of, own.of)),
+        None => Ok(()),
+    }
 }
 
 /// Where two texts part, as the number of a line.
@@ -102,6 +119,19 @@ mod tests {
         assert_eq!(wrong(3, &[exception("bus::gone", "why")]), ["bus::gone is excepted, and is no public function"]);
         assert_eq!(wrong(3, &[exception("bus::write", "why")]), ["bus::write is excepted, and all of it is stated"]);
         assert_eq!(wrong(2, &[exception("bus::write", "a"), exception("bus::write", "b")]), ["bus::write is excepted twice"]);
+    }
+
+    #[test]
+    fn an_export_says_what_the_function_says_that_it_stands_for() {
+        let below = publics_of("pub fn read(a: u16) -> u8\n    ensures { result ≡ read_of a }\n{\n}\n");
+        let export = |text: &str| Public { of: "c".to_string(), function: source::functions(text).remove(0) };
+        let words = |whole: &str| Words::from([("read_of".to_string(), whole.to_string())]);
+        let said = |text: &str, whole: &str| exported(&export(text), &below, &words(whole), |_| words("Bus.read_of"));
+        let same = "#[unsafe(no_mangle)]\npub extern \"C\" fn read(a: u16) -> u8\n    ensures { result ≡ read_of a }\n{\n    7\n}\n";
+        assert_eq!(said(same, "Bus.read_of"), Ok(()));
+        assert_eq!(said(&same.replace("read_of a", "a"), "Bus.read_of"), Err("the contract of c::read is not that of bus::read".to_string()));
+        assert_eq!(said(same, "Flat.read_of"), Err("c brings in read_of as Flat.read_of, and bus does not".to_string()));
+        assert_eq!(said(&same.replace("fn read", "fn get"), "Bus.read_of"), Err("c::get is exported, and no crate below has a function of its name".to_string()));
     }
 
     #[test]

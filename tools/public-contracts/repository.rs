@@ -22,7 +22,7 @@ pub struct Public {
 impl Public {
     /// The module that tells of its contract.
     pub fn module(&self) -> String {
-        format!("Rattle·{}.proofs.{}", self.of, self.function.path.join("."))
+        format!("Rattle.{}.proofs.{}", self.of, self.function.path.join("."))
     }
 
     /// As a caller names it.
@@ -42,11 +42,25 @@ impl Public {
 
 pub struct Repository {
     pub crates: Crates,
+    /// The static libraries: on one of them no crate can stand, so that no statement can speak of its functions.
+    pub statics: BTreeSet<String>,
 }
 
 impl Repository {
     pub fn read() -> io::Result<Repository> {
-        Ok(Repository { crates: Crates::read(&fs::read_to_string("crates.txt")?) })
+        let crates = Crates::read(&fs::read_to_string("crates.txt")?);
+        let is_static = |name: &String| crates.listed(&BTreeSet::from([name.clone()])).starts_with(&format!("{name} staticlib:"));
+        let statics = crates.names().into_iter().filter(is_static).collect();
+        Ok(Repository { crates, statics })
+    }
+
+    /// What the clauses of a crate bring in by name, and from where.
+    pub fn ghost_uses(&self, of: &str) -> io::Result<BTreeSet<(String, String)>> {
+        let mut found = BTreeSet::new();
+        for file in files(&Path::new("crates").join(of).join("src"), "rt")? {
+            found.extend(source::ghost_uses(&fs::read_to_string(&file)?));
+        }
+        Ok(found)
     }
 
     /// The public functions of these crates. What is the kit's has no folder here.
@@ -66,7 +80,7 @@ impl Repository {
 
     /// The crates that the statements can speak of, in the order of their line.
     pub fn named_by_own(&self) -> Vec<String> {
-        self.crates.named_by(OWN).cloned().collect()
+        self.crates.named_by(OWN).map(str::to_string).collect()
     }
 
     /// The statements of the modules that the prover is given, the written one or the others.

@@ -20,8 +20,10 @@ pub struct Function {
     pub path: Vec<String>,
     pub parameters: Vec<Parameter>,
     pub answers: bool,
-    /// What stands in its `ensures { .. }`, each on one line.
+    /// What stands in its `ensures { .. }` and `ensures NAME { .. }`, each on one line.
     pub clauses: Vec<String>,
+    /// Its parameters, its answer and all its clauses as they are written, on one line.
+    pub contract: String,
 }
 
 impl Function {
@@ -76,19 +78,43 @@ fn word(text: &str) -> String {
 
 fn function(path: Vec<String>, text: &str) -> Function {
     let (inside, mut rest) = enclosed(text, '(', ')');
-    let parameters = split(inside).into_iter().map(parameter).collect();
+    let begun = rest;
+    let parameters: Vec<Parameter> = split(inside).into_iter().map(parameter).collect();
     let answers = rest.split('{').next().map_or(false, |before| before.contains("->"));
     let mut clauses = Vec::new();
     loop {
-        let said = rest.split('{').next().and_then(|before| before.split_whitespace().last());
+        let before = rest.split('{').next().unwrap_or("");
+        // The kind of a clause, behind which it may have a name.
+        let kind = before.split_whitespace().rev().take(2).find(|word| ["ensures", "requires"].contains(word));
         let (clause, behind) = enclosed(rest, '{', '}');
-        match said {
-            Some("ensures") => clauses.push(clause.split_whitespace().collect::<Vec<_>>().join(" ")),
-            Some("requires") => (),
-            _ => return Function { path, parameters, answers, clauses },
+        match kind {
+            Some("ensures") => clauses.push(one_line(clause)),
+            Some(_) => (),
+            None => {
+                let contract = one_line(&format!("({}) {}{before}", split(inside).join(", "), &begun[..begun.len() - rest.len()]));
+                return Function { path, parameters, answers, clauses, contract };
+            }
         }
         rest = behind;
     }
+}
+
+fn one_line(text: &str) -> String {
+    text.split_whitespace().collect::<Vec<_>>().join(" ")
+}
+
+/// What a text's lines `ghost use PATH.{NAME, ..};` and `ghost use PATH as NAME;` bring in: each name, and the whole of what it stands for.
+pub fn ghost_uses(text: &str) -> Vec<(String, String)> {
+    let mut found = Vec::new();
+    for item in text.split("ghost use ").skip(1).filter_map(|rest| rest.split(';').next()) {
+        if let Some((path, names)) = item.split_once(".{") {
+            let names = names.trim_end_matches('}').split(',').map(str::trim).filter(|name| !name.is_empty());
+            found.extend(names.map(|name| name.split_once(" as ").unwrap_or((name, name))).map(|(name, own)| (own.to_string(), format!("{path}.{name}"))));
+        } else if let Some((path, own)) = item.split_once(" as ") {
+            found.push((own.to_string(), path.to_string()));
+        }
+    }
+    found
 }
 
 /// What stands between the first bracket and the one that closes it, and what stands behind that.
@@ -160,8 +186,8 @@ fn own(x: u8) -> u8 {
 impl<'a> Reader<'a> {
     // The next one.
     pub fn next(self, at: usize) -> Next<'a>
-        requires { ⌜ at ≤ length (now self) ⌝ }
-        ensures { λ r. ⌜ r ≡ recordAt (now (self .entry)) at ⌝ }
+        requires { at ≤ length self.now }
+        ensures { result ≡ record_at self.now at }
     {
         Next { at }
     }
@@ -169,16 +195,17 @@ impl<'a> Reader<'a> {
     pub fn put(&mut self, b: u8) {}
 }
 
-#[no_mangle]
+#[unsafe(no_mangle)]
 pub extern "C" fn write(
     image: &[u8],
     mut n: u64,
     ram: &mut [u8; 8192],
     size: &'a mut u64,
 ) -> [u8; 2]
-    ensures { λ r. ⌜ r ≡ pairOf (record { first = n }) ⌝ }
-    ensures { λ _. ⌜ now (ram .exit)
-        ≡ after (now (ram .entry)) ⌝ }
+    ensures value { result ≡ pair_of (record { first = n }) }
+    requires small { n < 7 }
+    ensures ram_after { ram.new
+        ≡ after ram.old }
 {
     [0; 2]
 }
@@ -210,10 +237,27 @@ pub(crate) fn inside() -> u8 {
     #[test]
     fn clauses_are_what_is_ensured() {
         let found = functions(TEXT);
-        assert_eq!(found[0].clauses, ["λ r. ⌜ r ≡ recordAt (now (self .entry)) at ⌝"]);
+        assert_eq!(found[0].clauses, ["result ≡ record_at self.now at"]);
         assert!(found[1].clauses.is_empty());
-        let clauses = ["λ r. ⌜ r ≡ pairOf (record { first = n }) ⌝", "λ _. ⌜ now (ram .exit) ≡ after (now (ram .entry)) ⌝"];
-        assert_eq!(found[2].clauses, clauses);
+        assert_eq!(found[2].clauses, ["result ≡ pair_of (record { first = n })", "ram.new ≡ after ram.old"]);
+    }
+
+    #[test]
+    fn a_contract_is_what_stands_before_the_body() {
+        let found = functions(TEXT);
+        assert_eq!(found[1].contract, "(&mut self, b: u8)");
+        assert_eq!(
+            found[2].contract,
+            "(image: &[u8], mut n: u64, ram: &mut [u8; 8192], size: &'a mut u64) -> [u8; 2] \
+             ensures value { result ≡ pair_of (record { first = n }) } requires small { n < 7 } ensures ram_after { ram.new ≡ after ram.old }"
+        );
+    }
+
+    #[test]
+    fn a_name_is_brought_in_from_a_place() {
+        let text = "ghost use Rattle.bus.specs.Bus.{read_of, write_of as put};\nuse bus::ReadAnswer;\nghost use Rattle.mount.specs.Mount as mounting;\n";
+        let pairs = [("read_of", "Rattle.bus.specs.Bus.read_of"), ("put", "Rattle.bus.specs.Bus.write_of"), ("mounting", "Rattle.mount.specs.Mount")];
+        assert_eq!(ghost_uses(text), pairs.map(|(name, whole)| (name.to_string(), whole.to_string())));
     }
 
     #[test]

@@ -13,10 +13,10 @@ pub fn stated(text: &str) -> Vec<Stated> {
     declared(text).iter().filter_map(|said| meant(said).and_then(module)).collect()
 }
 
-/// The modules of contracts that a text gives a name: `use Rattle·CRATE.proofs.FUNCTION.Reads as NAME`.
+/// The modules of contracts that a text gives a name: `use Rattle.CRATE.proofs.FUNCTION.Reads as NAME`.
 fn named(text: &str) -> BTreeMap<&str, String> {
     let uses = text.lines().filter_map(|line| line.strip_prefix("use ")?.split_once(" as "));
-    uses.filter(|(module, _)| module.starts_with("Rattle·") && module.contains(".proofs."))
+    uses.filter(|(module, _)| module.starts_with("Rattle.") && module.contains(".proofs."))
         .map(|(module, name)| (name, module.strip_suffix(".Reads").unwrap_or(module).to_string()))
         .collect()
 }
@@ -45,14 +45,10 @@ fn meant(said: &str) -> Option<(&str, What)> {
         return Some((name.strip_suffix(".Learnt")?, What::Answer));
     }
     if let Some(words) = said.strip_prefix("Shows ") {
-        return Some((words.strip_suffix(".Learnt (λ k r. now r)")?, What::Answer));
+        return Some((words.strip_suffix(".Learnt (λ k r. r.now)")?, What::Answer));
     }
-    if let Some(words) = said.strip_prefix("Leaves ") {
-        let (name, path) = words.strip_suffix(" .0))")?.split_once(".Learnt (λ k s. now (s")?;
-        return path.split(' ').skip(1).all(|step| step == ".1").then(|| (name, What::Left(path.matches(".1").count())));
-    }
-    let (name, clauses) = said.strip_prefix("{M : Type 1} (𝓤 : URA M) (H : Heap 𝓤) → Determined 𝓤 ")?.split_once(".ended (")?;
-    (clauses == format!("{name}.clauses 𝓤 H)")).then(|| (name, What::Answer))
+    let (name, path) = said.strip_prefix("Leaves ")?.strip_suffix(".0.now)")?.split_once(".Learnt (λ k s. s")?;
+    path.split('.').skip(1).all(|step| step == "1").then(|| (name, What::Left(path.matches(".1").count())))
 }
 
 #[cfg(test)]
@@ -60,37 +56,36 @@ mod tests {
     use super::*;
 
     fn said(declaration: &str) -> Vec<Stated> {
-        let uses = "use Rattle·bus.proofs.write.Reads as bus-write\nuse Rattle·trace.proofs.Reader.new as new\nuse Rattle·bus.specs.Bus as bus";
+        let uses = "use Rattle.bus.proofs.write.Reads as bus_write\nuse Rattle.trace.proofs.Reader.new.Reads as reader_new\nuse Rattle.bus.specs.Bus as bus";
         stated(&format!("{uses}\n\n{declaration}\nfact k a x y s t p q = coincide p q\n"))
     }
 
     fn of_write(what: What) -> Vec<Stated> {
-        vec![("Rattle·bus.proofs.write".to_string(), what)]
+        vec![("Rattle.bus.proofs.write".to_string(), what)]
     }
 
     #[test]
     fn a_statement_is_of_an_answer_or_of_what_is_left() {
-        assert_eq!(said("pub fact : Answers bus-write.Learnt"), of_write(What::Answer));
-        assert_eq!(said("pub fact : Shows bus-write.Learnt (λ k r. now r)"), of_write(What::Answer));
-        assert_eq!(said("pub fact : Leaves bus-write.Learnt (λ k s. now (s .0))"), of_write(What::Left(0)));
-        assert_eq!(said("pub fact : Leaves bus-write.Learnt\n    (λ k s. now (s .1 .1 .0))"), of_write(What::Left(2)));
-        let by_clauses = "pub fact : {M : Type 1} (𝓤 : URA M) (H : Heap 𝓤) → Determined 𝓤 new.ended (new.clauses 𝓤 H)";
-        assert_eq!(said(by_clauses), [("Rattle·trace.proofs.Reader.new".to_string(), What::Answer)]);
+        assert_eq!(said("pub fact : Answers bus_write.Learnt"), of_write(What::Answer));
+        assert_eq!(said("pub fact : Shows bus_write.Learnt (λ k r. r.now)"), of_write(What::Answer));
+        assert_eq!(said("pub fact : Leaves bus_write.Learnt (λ k s. s.0.now)"), of_write(What::Left(0)));
+        assert_eq!(said("pub fact : Leaves bus_write.Learnt\n    (λ k s. s.1.1.0.now)"), of_write(What::Left(2)));
+        assert_eq!(said("pub fact : Answers reader_new.Learnt"), [("Rattle.trace.proofs.Reader.new".to_string(), What::Answer)]);
     }
 
     #[test]
     fn what_says_less_is_no_statement() {
         for declaration in [
-            "-- pub fact : Answers bus-write.Learnt",
+            "-- pub fact : Answers bus_write.Learnt",
             "pub fact : Answers other.Learnt",
-            "pub fact : Answers bus-write.Learnt → Answers bus-write.Learnt",
-            "pub fact : (d : Answers bus-write.Learnt) → Answers bus-write.Learnt",
-            "pub fact : Shows bus-write.Learnt (λ k r. 0)",
-            "pub fact : Leaves bus-write.Learnt (λ k s. 0)",
-            "pub fact : Leaves bus-write.Learnt (λ k s. length (now (s .0)))",
-            "pub fact : Leaves bus-write.Learnt (λ k s. now (s .0 .0))",
-            "pub fact : Determined 𝓤 new.ended (bus-write.clauses 𝓤 H)",
-            "pub fact : Says bus-write.Learnt (λ k a. bus.writeOf (a .0))",
+            "pub fact : Answers bus_write.Learnt → Answers bus_write.Learnt",
+            "pub fact : (d : Answers bus_write.Learnt) → Answers bus_write.Learnt",
+            "pub fact : Shows bus_write.Learnt (λ k r. 0)",
+            "pub fact : Leaves bus_write.Learnt (λ k s. 0)",
+            "pub fact : Leaves bus_write.Learnt (λ k s. length s.0.now)",
+            "pub fact : Leaves bus_write.Learnt (λ k s. s.0.0.now)",
+            "pub fact : {M : Type 1} (𝓤 : Ura M) → Determined 𝓤 reader_new.ended (reader_new.clauses {𝓤 = 𝓤})",
+            "pub fact : Says bus_write.Learnt (λ k a. bus.write_of a.0)",
         ] {
             assert!(said(declaration).is_empty(), "{declaration}");
         }

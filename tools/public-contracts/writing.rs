@@ -18,15 +18,14 @@ pub fn written(functions: &[Public], by_hand: &BTreeSet<Stated>, own: &str) -> S
     format!(
         "-- Promise 2: \"Any two answers that a function's contract allows coincide\": of each public function, from its own contract. Written by\n\
          -- `tools/contracts write`, which leaves out what `Rest` says.\n\
-         use denote.Ref.{{now}}\n\
-         use Rattle·facts.proofs.ChoiceLaws.{{coincide}}\n\
-         {uses}use Rattle·{own}·specs.specs.Determined.{{Answers, Leaves}}\n{facts}"
+         use Rattle.facts.proofs.ChoiceLaws.{{coincide}}\n\
+         {uses}use Rattle.{own}.specs.Determined.{{Answers, Leaves}}\n{facts}"
     )
 }
 
 fn alias(public: &Public) -> String {
     let words: Vec<String> = [&public.of].into_iter().chain(&public.function.path).map(|word| word.to_lowercase()).collect();
-    words.join("-").replace('_', "-")
+    words.join("_")
 }
 
 fn statements(public: &Public, by_hand: &BTreeSet<Stated>) -> String {
@@ -39,34 +38,30 @@ fn statements(public: &Public, by_hand: &BTreeSet<Stated>) -> String {
         };
         let statement = match what {
             What::Answer => format!("Answers {alias}.Learnt"),
-            What::Left(place) => format!("Leaves {alias}.Learnt (λ k s. now (s{} .0))", " .1".repeat(place)),
+            What::Left(place) => format!("Leaves {alias}.Learnt (λ k s. s{}.0.now)", ".1".repeat(place)),
         };
-        let name = format!("{alias}-{}", function.name_of(what).replace('_', "-"));
+        let name = format!("{alias}_{}", function.name_of(what));
         let (p, q) = (clause_of("p", at, function), clause_of("q", at, function));
         text += &format!("\npub {name} : {statement}\n{name} k a x y s t p q = coincide {p} {q}\n");
     }
     text
 }
 
-/// What a clause says by an equality: `λ r. ⌜ r ≡ .. ⌝`, or `λ _. ⌜ now (parameter .exit) ≡ .. ⌝`.
+/// What a clause says by an equality: `result ≡ ..`, or `parameter.new ≡ ..`.
 fn equated(clause: &str, function: &Function) -> Option<What> {
-    let (answer, fact) = clause.strip_prefix("λ ")?.split_once(". ⌜ ")?;
-    if let Some((parameter, _)) = fact.strip_prefix("now (").and_then(|fact| fact.split_once(" .exit) ≡ ")) {
-        let place = function.parameters.iter().position(|known| known.name == parameter);
-        return place.map(What::Left);
+    let (left, right) = clause.split_once(" ≡ ")?;
+    if left == right {
+        return None;
     }
-    let (left, right) = fact.split_once(" ≡ ")?;
-    (left == answer && right != format!("{answer} ⌝")).then(|| What::Answer)
+    if let Some(parameter) = left.strip_suffix(".new") {
+        return function.parameters.iter().position(|known| known.name == parameter).map(What::Left);
+    }
+    (left == "result").then(|| What::Answer)
 }
 
 /// The clauses that a caller learns are a product nested to the right.
 fn clause_of(learnt: &str, at: usize, function: &Function) -> String {
-    let path = " .1".repeat(at) + if at + 1 == function.clauses.len() { "" } else { " .0" };
-    if path.is_empty() {
-        learnt.to_string()
-    } else {
-        format!("({learnt}{path})")
-    }
+    learnt.to_string() + &".1".repeat(at) + if at + 1 == function.clauses.len() { "" } else { ".0" }
 }
 
 #[cfg(test)]
@@ -77,19 +72,19 @@ mod tests {
 
     const TEXT: &str = "impl Mbc1 {
     pub fn bank_0(self) -> u8
-        ensures { λ r. ⌜ r ≡ bankOf self ⌝ }
+        ensures { result ≡ bank_of self }
     {
     }
 }
 pub fn write(cart: Cartridge, ram_area: &mut [u8]) -> Answer
-    ensures { λ r. ⌜ r ≡ writeOf cart ⌝ }
-    ensures { λ r. ⌜ r ≡ sameOf cart ⌝ }
-    ensures { λ _. ⌜ now (ram_area .exit) ≡ areaAfter cart ⌝ }
+    ensures value { result ≡ write_of cart }
+    ensures same { result ≡ same_of cart }
+    ensures area_after { ram_area.new ≡ area_after cart }
 {
 }
 pub fn weak(ram: &mut [u8]) -> usize
-    ensures { λ r. ⌜ r ≡ r ⌝ }
-    ensures { λ r. ⌜ Put (now (ram .entry)) (now (ram .exit)) r ⌝ }
+    ensures nothing { result ≡ result }
+    ensures put { Put ram.old ram.new result }
 {
 }
 ";
@@ -99,21 +94,21 @@ pub fn weak(ram: &mut [u8]) -> usize
     }
 
     const FACTS: &str = "
-pub my-bus-mbc1-bank-0-answer : Answers my-bus-mbc1-bank-0.Learnt
-my-bus-mbc1-bank-0-answer k a x y s t p q = coincide p q
+pub my_bus_mbc1_bank_0_answer : Answers my_bus_mbc1_bank_0.Learnt
+my_bus_mbc1_bank_0_answer k a x y s t p q = coincide p q
 
-pub my-bus-write-answer : Answers my-bus-write.Learnt
-my-bus-write-answer k a x y s t p q = coincide (p .0) (q .0)
+pub my_bus_write_answer : Answers my_bus_write.Learnt
+my_bus_write_answer k a x y s t p q = coincide p.0 q.0
 
-pub my-bus-write-ram-area : Leaves my-bus-write.Learnt (λ k s. now (s .1 .0))
-my-bus-write-ram-area k a x y s t p q = coincide (p .1 .1) (q .1 .1)
+pub my_bus_write_ram_area : Leaves my_bus_write.Learnt (λ k s. s.1.0.now)
+my_bus_write_ram_area k a x y s t p q = coincide p.1.1 q.1.1
 ";
 
     #[test]
     fn a_plain_equality_has_a_statement() {
         let text = written(&publics(), &BTreeSet::new(), "mine");
-        let uses = "use Rattle·my_bus.proofs.Mbc1.bank_0.Reads as my-bus-mbc1-bank-0\nuse Rattle·my_bus.proofs.write.Reads as my-bus-write\n";
-        let last = "use Rattle·mine·specs.specs.Determined.{Answers, Leaves}\n";
+        let uses = "use Rattle.my_bus.proofs.Mbc1.bank_0.Reads as my_bus_mbc1_bank_0\nuse Rattle.my_bus.proofs.write.Reads as my_bus_write\n";
+        let last = "use Rattle.mine.specs.Determined.{Answers, Leaves}\n";
         assert!(text.ends_with(&format!("{uses}{last}{FACTS}")), "{text}");
     }
 
@@ -126,9 +121,9 @@ my-bus-write-ram-area k a x y s t p q = coincide (p .1 .1) (q .1 .1)
 
     #[test]
     fn what_is_stated_by_hand_is_left_out() {
-        let by_hand = BTreeSet::from([("Rattle·my_bus.proofs.Mbc1.bank_0".to_string(), What::Answer)]);
+        let by_hand = BTreeSet::from([("Rattle.my_bus.proofs.Mbc1.bank_0".to_string(), What::Answer)]);
         let text = written(&publics(), &by_hand, "mine");
         assert!(!text.contains("bank"), "{text}");
-        assert!(text.contains("pub my-bus-write-answer"), "{text}");
+        assert!(text.contains("pub my_bus_write_answer"), "{text}");
     }
 }

@@ -12,13 +12,28 @@ impl Crates {
     /// By the lines `NAME: DEP DEP` and `NAME staticlib: DEP DEP` of crates.txt; what stands behind `#` is for people.
     pub fn read(text: &str) -> Crates {
         let rows = text.lines().map(|line| line.split('#').next().unwrap_or("").trim()).filter(|line| line.contains(':'));
-        let lines: BTreeMap<String, String> = rows.map(|line| (name_of(line), line.to_string())).collect();
-        let below = lines.keys().map(|name| (name.clone(), reached(&lines, name))).collect();
-        Crates { lines, below }
+        let lines = rows.map(|line| (line.split([':', ' ']).next().unwrap_or("").to_string(), line.to_string())).collect();
+        let mut crates = Crates { lines, below: BTreeMap::new() };
+        crates.below = crates.lines.keys().map(|name| (name.clone(), crates.reached(name))).collect();
+        crates
     }
 
     pub fn names(&self) -> Vec<String> {
         self.lines.keys().cloned().collect()
+    }
+
+    /// What the crate's own line names, in its order.
+    pub fn named_by(&self, name: &str) -> impl Iterator<Item = &str> {
+        self.lines.get(name).and_then(|line| line.split_once(':')).map_or("", |(_, used)| used).split_whitespace()
+    }
+
+    fn reached(&self, name: &str) -> BTreeSet<String> {
+        let mut found = BTreeSet::new();
+        let mut open = vec![name];
+        while let Some(next) = open.pop() {
+            open.extend(self.named_by(next).filter(|used| found.insert(used.to_string())));
+        }
+        found
     }
 
     pub fn below(&self, name: &str) -> impl Iterator<Item = &String> {
@@ -37,24 +52,6 @@ impl Crates {
     }
 }
 
-fn name_of(line: &str) -> String {
-    line.split([':', ' ']).next().unwrap_or("").to_string()
-}
-
-fn reached(lines: &BTreeMap<String, String>, name: &str) -> BTreeSet<String> {
-    let mut found = BTreeSet::new();
-    let mut open = vec![name];
-    while let Some(next) = open.pop() {
-        let used = lines.get(next).and_then(|line| line.split_once(':')).map_or("", |(_, used)| used);
-        for used in used.split_whitespace() {
-            if found.insert(used.to_string()) {
-                open.push(used);
-            }
-        }
-    }
-    found
-}
-
 #[cfg(test)]
 mod tests {
     use super::*;
@@ -71,6 +68,13 @@ mod tests {
         assert_eq!(Crates::read(LISTED).names(), ["bank", "board", "bus", "clock", "facts", "window"]);
         assert!(below("facts").is_empty());
         assert_eq!(below("bank"), ["facts"]);
+    }
+
+    #[test]
+    fn a_line_names_what_stands_in_it_in_its_order() {
+        let crates = Crates::read(LISTED);
+        assert_eq!(crates.named_by("bus").collect::<Vec<_>>(), ["window", "clock"]);
+        assert_eq!(crates.named_by("board").collect::<Vec<_>>(), ["bus"]);
     }
 
     #[test]
