@@ -7,7 +7,7 @@ use std::path::{Path, PathBuf};
 
 #[derive(Default)]
 pub struct Known {
-    /// Names that are declared in a file of specs/, with that file's name before them: `Image.byteAt`; and without it.
+    /// Names that are declared in a file of specs/, with that file's name before them: `Image.byte_at`; and without it.
     pub definitions: BTreeSet<String>,
     /// Names that are declared in proofs/.
     pub theorems: BTreeSet<String>,
@@ -93,9 +93,9 @@ mod tests {
 
     #[test]
     fn names_stand_before_a_colon() {
-        let text = "abbrev pub byteAt : List ℕ → ℕ\nbyteAt s i = s\npub record Power (q : ℕ) : Type 0 where\n  pub log : ℕ\npub data Held : Type 0 where\n";
+        let text = "abbrev pub byte_at : List ℕ → ℕ\nbyte_at s i = s\npub record Power (q : ℕ) : Type 0 where\n  pub log : ℕ\npub data Held : Type 0 where\n";
         let names: Vec<String> = declared(text).into_iter().collect();
-        assert_eq!(names, ["Held", "Power", "byteAt", "log"]);
+        assert_eq!(names, ["Held", "Power", "byte_at", "log"]);
     }
 
     #[test]

@@ -84,8 +84,8 @@ mod tests {
     fn known() -> Known {
         let names = |names: &[&str]| names.iter().map(|name| name.to_string()).collect();
         Known {
-            definitions: names(&["Image", "Image.byteAt", "byteAt"]),
-            theorems: names(&["padded-byte", "Demand2"]),
+            definitions: names(&["Image", "Image.byte_at", "byte_at"]),
+            theorems: names(&["padded_byte", "Demand2"]),
             functions: names(&["byte_at"]),
             wrong: names(&["padded_with_ff"]),
             crates: names(&["image"]),
@@ -103,7 +103,7 @@ mod tests {
     #[test]
     fn a_row_names_what_is_there() {
         let row = first(
-            "\"Words.\" | `image` `Image.byteAt` | `image::byte_at`; theorem `padded-byte` of `Demand2.antt` | `padded_with_ff`",
+            "\"Words.\" | `image` `Image.byte_at` | `image::byte_at`; theorem `padded_byte` of `Demand2.antt` | `padded_with_ff`",
         );
         assert_eq!(row.unknown(&known()), Vec::<String>::new());
         assert_eq!(row.misquoted(&rules()), Vec::<String>::new());
@@ -119,8 +119,8 @@ mod tests {
 
     #[test]
     fn names_and_words_that_are_not_there_are_told() {
-        let row = first("\"Other\" | `Image.bytesAt` | `image::bytes_at` | `padded_with_00`");
-        let unknown = ["definition `Image.bytesAt`", "function or theorem `image::bytes_at`", "wrong program `padded_with_00`"];
+        let row = first("\"Other\" | `Image.bytes_at` | `image::bytes_at` | `padded_with_00`");
+        let unknown = ["definition `Image.bytes_at`", "function or theorem `image::bytes_at`", "wrong program `padded_with_00`"];
         assert_eq!(row.unknown(&known()), unknown);
         assert_eq!(row.misquoted(&rules()), ["Bus 4 does not say \"Other\""]);
     }

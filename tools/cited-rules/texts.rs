@@ -11,8 +11,13 @@ pub struct Text {
     pub is_definition: bool,
 }
 
-/// Not looked at: what is made, this program and its tests, which cite rules that are none.
+/// Not looked at: what is made, also in each crate's folder, this program and its tests, which cite rules that are none.
 const LEFT_OUT: [&str; 4] = ["./target", "./.git", "./tools/cited-rules", "./tools/own-tests"];
+
+fn is_left_out(path: &Path) -> bool {
+    let is_made = path.file_name().map_or(false, |name| name == "out") && path.parent().and_then(Path::parent) == Some(Path::new("./crates"));
+    is_made || LEFT_OUT.iter().any(|out| path == Path::new(out))
+}
 
 /// Every file of the repository that is text.
 pub fn all() -> io::Result<Vec<Text>> {
@@ -26,7 +31,7 @@ pub fn all() -> io::Result<Vec<Text>> {
 fn below(folder: &Path, files: &mut Vec<PathBuf>) -> io::Result<()> {
     for entry in fs::read_dir(folder)? {
         let path = entry?.path();
-        if LEFT_OUT.iter().any(|out| path == Path::new(out)) {
+        if is_left_out(&path) {
             continue;
         }
         if path.is_dir() {
@@ -72,6 +77,13 @@ fn comments(text: &str) -> String {
 #[cfg(test)]
 mod tests {
     use super::*;
+
+    #[test]
+    fn what_is_made_is_left_out() {
+        let left = ["./target", "./crates/bus/out"].map(|path| is_left_out(Path::new(path)));
+        let kept = ["./crates/out", "./crates/bus/src", "./docs/out"].map(|path| is_left_out(Path::new(path)));
+        assert_eq!((left, kept), ([true; 2], [false; 3]));
+    }
 
     #[test]
     fn the_lines_of_a_comment_are_one_text() {
