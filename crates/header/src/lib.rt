@@ -39,7 +39,7 @@ pub struct Facts {
     // The header's RAM size in bytes.
     pub size: usize,
     pub colour: bool,
-    // The title's length: it stands from image::places::TITLE on.
+    // The title's length: it stands from 0x134 on.
     pub title: usize,
 }
 

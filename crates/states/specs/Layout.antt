@@ -1,4 +1,14 @@
--- The 64 bytes of a state: a cartridge's fields at the places of state_fields' Places.antt. Bytes 10 to 15 and 59 to 63 have no field: they
+-- The 64 bytes of a state: where each field stands, little-endian. The order of the fields is this library's own.
+--
+--    0     kind                      8, 9      number of ROM banks     40 .. 43   its sub-second
+--    1     battery, 0 or 1           16 .. 23  length of the image     44         latched, 0 or 1
+--    2     enabled, 0 or 1           24 .. 31  the header's RAM size   45 .. 51   running second, minute, hour, day (2), halt, carry
+--    3     mode or memory, 0 or 1    32 .. 39  the clock's time        52 .. 58   the same of the frozen copy
+--    4, 5  ROM bank
+--    6     RAM bank, or two bits
+--    7     clock register
+--
+-- Bytes 10 to 15 and 59 to 63 have no field: they
 -- are free, and written as zero. So is what a kind does not use: the clock and its register (7, 32 to 58) without a timer, the ROM bank's
 -- second byte (5) but for MBC5, the mode (3) but for MBC1 and MBC3, the RAM bank (6) of an MBC2, and without a mapper all of 2 to 7.
 use Rattle.std.specs.Prelude.{Bool, true, false, List, [], ◌∷◌, ◌++◌, ℕ, replicate}
