@@ -6,15 +6,11 @@ use Rattle.player.proofs.imf_advance.Goals as goal
 pub returns-in-Done : goal.returns-in-Done
 returns-in-Done c =
     let a = c.args in
-    record {
-      value = advance_number_lem a.state.now a.n c.advance.ensures.value c.in-Done.is;
-      state_after = c.advance.ensures.s_after;
-    }
+    let d = c.advance.ensures in
+    record { value = advance_number_lem a.state.now a.n d.value c.in-Done.is; state_after = d.s_after }
 
 pub returns-in-Refuse : goal.returns-in-Refuse
 returns-in-Refuse c =
     let a = c.args in
-    record {
-      value = c.number.ensures ∙ advance_number_lem a.state.now a.n c.advance.ensures.value c.in-Refuse.is;
-      state_after = c.advance.ensures.s_after;
-    }
+    let d = c.advance.ensures in
+    record { value = c.number.ensures ∙ advance_number_lem a.state.now a.n d.value c.in-Refuse.is; state_after = d.s_after }
