@@ -30,6 +30,12 @@ struct Edit {
     changes: Vec<Change>,
 }
 
+impl Edit {
+    fn name(&self) -> String {
+        format!("{}/{}", self.of, self.label)
+    }
+}
+
 pub struct Run {
     top: PathBuf,
     /// Where copies stand while they are needed, and where the logs stay.
@@ -71,7 +77,8 @@ impl Run {
                 }
             }
         }
-        let proved = self.try_own(&own, others.iter().map(|edit| &edit.of))?;
+        let (proved, again) = self.try_own(&own, others.iter().map(|edit| &edit.of))?;
+        others.extend(own.into_iter().filter(|edit| again.contains(&edit.name())));
         others.retain(|edit| proved.contains(&edit.of) || self.not_tried(edit));
         others.reverse();
         let left = Mutex::new(others);
@@ -177,12 +184,12 @@ impl Run {
     }
 
     /// Tries edits that change their own crate alone: `rt ci` takes them for must-fail edits. Which of these crates and of those further named it proves as
-    /// they stand.
-    fn try_own<'a>(&self, edits: &'a [Edit], named: impl Iterator<Item = &'a String>) -> io::Result<BTreeSet<String>> {
+    /// they stand, and which edits are to be tried again, each in a copy of its own, since `rt` does not say what it refused.
+    fn try_own<'a>(&self, edits: &'a [Edit], named: impl Iterator<Item = &'a String>) -> io::Result<(BTreeSet<String>, BTreeSet<String>)> {
         let copy = self.room.join("own");
         let crates: BTreeSet<&String> = edits.iter().map(|edit| &edit.of).chain(named).collect();
         if crates.is_empty() {
-            return Ok(BTreeSet::new());
+            return Ok((BTreeSet::new(), BTreeSet::new()));
         }
         println!("wrong: {} wrong programs that change their own crate", edits.len());
         folder::repository(&self.top, &copy, &self.crates, &self.crates.with_below(crates.iter().copied()))?;
@@ -195,14 +202,16 @@ impl Run {
         self.prover.ci(&copy, &log, true)?;
         fs::remove_dir_all(&copy)?;
         let said = String::from_utf8_lossy(&fs::read(log)?).to_string();
+        let mut again = BTreeSet::new();
         for edit in edits {
-            let told = format!("rt: must-fail {}/{}.edit: ", edit.of, edit.label);
+            let told = format!("rt: must-fail {}.edit: ", edit.name());
             match said.lines().find_map(|line| line.strip_prefix(&told)) {
+                Some(how) if verdict::cites_what_was_refused(how) => drop(again.insert(edit.name())),
                 Some(how) => self.tell(&edit.of, &edit.label, judged(verdict::of_edit(how))),
                 None => drop(self.not_tried(edit)),
             }
         }
-        Ok(crates.into_iter().filter(|name| is_proved(&said, name)).cloned().collect())
+        Ok((crates.into_iter().filter(|name| is_proved(&said, name)).cloned().collect(), again))
     }
 
     /// Counts an edit of a crate that is not proved as it stands. Answers false.
@@ -211,7 +220,7 @@ impl Run {
         false
     }
 
-    /// Tries an edit that changes crates below its own: those that stand between must all be proved with it, and its own alone be refused.
+    /// Tries an edit in a copy of its own: all below its crate must be proved with it, also what it changes there, and its crate alone be refused.
     fn tried(&self, edit: &Edit) -> Result<String, String> {
         let copy = self.room.join(&edit.of).join(&edit.label);
         let said = self.said(edit, &copy).map_err(|why| why.to_string());
@@ -236,6 +245,7 @@ impl Run {
             for (file, text) in edit::apply(&edit.changes, &of, &tree).map_err(lost)? {
                 fs::write(tree.join(file), text)?;
             }
+            self.prover.lay_out(&tree)?;
         }
         let log = self.logs.join(&edit.of).join(format!("{}.log", edit.label));
         fs::create_dir_all(self.logs.join(&edit.of))?;

@@ -30,6 +30,12 @@ pub fn of_edit(said: &str) -> Verdict {
     }
 }
 
+/// Whether `rt` took an edit for bad by a line that names no declaration: that others of the same file cite what was refused. What was refused, and
+/// whether at a fact, the check alone says.
+pub fn cites_what_was_refused(said: &str) -> bool {
+    said.starts_with("BAD EDIT: ") && said.contains(" that depend") && said.contains(", which was rejected")
+}
+
 /// The verdict on a crate that `rt ci` does not prove, by what it says of that.
 pub fn of_check(said: &str) -> Verdict {
     if said.lines().any(|line| line.starts_with("logic=not-proved")) {
@@ -107,6 +113,13 @@ mod tests {
 
     fn refused(place: &str) -> Verdict {
         Verdict::Refused(place.to_string())
+    }
+
+    #[test]
+    fn an_edit_may_be_taken_for_bad_by_what_cites_it() {
+        assert!(cites_what_was_refused("BAD EDIT: the prover cannot read the edited text: ./proofs/A.antt:5:1: error: 1 declaration that depends on `a`, which was rejected, was not checked"));
+        assert!(!cites_what_was_refused("BAD EDIT: an 'old:' text is in src/lib.rt 0 times"));
+        assert!(!cites_what_was_refused("refused, as it must be: ./proofs/A.antt:5:1: error: `b`: 2 declarations that depend on `a`, which was rejected"));
     }
 
     #[test]
