@@ -43,7 +43,13 @@ impl Crates {
     /// The crates and all that is below them.
     pub fn with_below<'a>(&self, named: impl Iterator<Item = &'a String>) -> BTreeSet<String> {
         let crates: Vec<&String> = named.collect();
-        crates.iter().flat_map(|name| self.below(name)).chain(crates.iter().copied()).filter(|name| self.lines.contains_key(*name)).cloned().collect()
+        crates
+            .iter()
+            .flat_map(|name| self.below(name))
+            .chain(crates.iter().copied())
+            .filter(|name| self.lines.contains_key(*name))
+            .cloned()
+            .collect()
     }
 
     /// A crates.txt of these crates alone.
@@ -56,7 +62,8 @@ impl Crates {
 mod tests {
     use super::*;
 
-    const LISTED: &str = "## ground: a heading\n# words: with a colon\nwindow: bank # a comment\nfacts:\nbank: facts\n\n## bus, on ground: next\n\
+    const LISTED: &str =
+        "## ground: a heading\n# words: with a colon\nwindow: bank # a comment\nfacts:\nbank: facts\n\n## bus, on ground: next\n\
                           bus: window clock\n\nclock: facts io\nboard staticlib: bus";
 
     fn below(name: &str) -> Vec<String> {

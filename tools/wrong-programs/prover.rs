@@ -23,7 +23,14 @@ impl Prover {
 
     /// Has `rt` lay out a crate's files, as `rt ci` asks: a wrong program's lines need not be.
     pub fn lay_out(&self, tree: &Path) -> io::Result<()> {
-        Command::new("rt").arg("fmt").current_dir(tree).stdin(Stdio::null()).stdout(Stdio::null()).stderr(Stdio::null()).status().map(drop)
+        Command::new("rt")
+            .arg("fmt")
+            .current_dir(tree)
+            .stdin(Stdio::null())
+            .stdout(Stdio::null())
+            .stderr(Stdio::null())
+            .status()
+            .map(drop)
     }
 
     /// Runs `rt ci` in the repository, and leaves all that it says in `log`: on all processors, or on one. Whether all passed.

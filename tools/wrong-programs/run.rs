@@ -129,7 +129,8 @@ impl Run {
         let mut found = Vec::new();
         for entry in fs::read_dir(self.top.join("crates"))? {
             let name = entry?.file_name().to_string_lossy().to_string();
-            let folders: Vec<PathBuf> = self.folders.iter().map(|folder| self.crate_folder(&name).join(folder)).filter(|f| f.exists()).collect();
+            let folders: Vec<PathBuf> =
+                self.folders.iter().map(|folder| self.crate_folder(&name).join(folder)).filter(|f| f.exists()).collect();
             if folders.is_empty() {
                 continue;
             }
@@ -158,7 +159,8 @@ impl Run {
     fn edits(&self, name: &str) -> Vec<PathBuf> {
         let folders = self.folders.iter().map(|folder| self.crate_folder(name).join(folder));
         let files = folders.flat_map(|folder| fs::read_dir(folder).into_iter().flatten().flatten());
-        let mut found: Vec<PathBuf> = files.map(|file| file.path()).filter(|path| path.extension().map_or(false, |end| end == "edit")).collect();
+        let mut found: Vec<PathBuf> =
+            files.map(|file| file.path()).filter(|path| path.extension().map_or(false, |end| end == "edit")).collect();
         found.sort();
         found
     }
@@ -185,7 +187,11 @@ impl Run {
 
     /// Tries edits that change their own crate alone: `rt ci` takes them for must-fail edits. Which of these crates and of those further named it proves as
     /// they stand, and which edits are to be tried again, each in a copy of its own, since `rt` does not say what it refused.
-    fn try_own<'a>(&self, edits: &'a [Edit], named: impl Iterator<Item = &'a String>) -> io::Result<(BTreeSet<String>, BTreeSet<String>)> {
+    fn try_own<'a>(
+        &self,
+        edits: &'a [Edit],
+        named: impl Iterator<Item = &'a String>,
+    ) -> io::Result<(BTreeSet<String>, BTreeSet<String>)> {
         let copy = self.room.join("own");
         let crates: BTreeSet<&String> = edits.iter().map(|edit| &edit.of).chain(named).collect();
         if crates.is_empty() {
@@ -216,7 +222,11 @@ impl Run {
 
     /// Counts an edit of a crate that is not proved as it stands. Answers false.
     fn not_tried(&self, edit: &Edit) -> bool {
-        self.tell(&edit.of, &edit.label, Err(format!("not tried: {} is not proved as it stands (target/wrong-programs/rt-ci.log)", edit.of)));
+        self.tell(
+            &edit.of,
+            &edit.label,
+            Err(format!("not tried: {} is not proved as it stands (target/wrong-programs/rt-ci.log)", edit.of)),
+        );
         false
     }
 
@@ -308,7 +318,8 @@ mod tests {
 
     #[test]
     fn a_section_ends_where_rt_tells_how_it_ended() {
-        let said = "== a\none\nrt: more\nlogic=proved\nrt: a proved\n== b\ntwo\nlogic=not-proved\nrt: b NOT PROVED\nrt: FAILED: b\n";
+        let said =
+            "== a\none\nrt: more\nlogic=proved\nrt: a proved\n== b\ntwo\nlogic=not-proved\nrt: b NOT PROVED\nrt: FAILED: b\n";
         assert_eq!(section(said, "a"), "one\nrt: more\nlogic=proved\n");
         assert_eq!(section(said, "b"), "two\nlogic=not-proved\n");
         assert_eq!(section(said, "c"), "");

@@ -83,8 +83,15 @@ fn refusals(said: &str) -> Vec<Refusal> {
 }
 
 /// What the prover says of a text that names a thing that is not there, takes one for what it is not, or cites what was refused.
-const NAMES_NOTHING: [&str; 7] =
-    ["has no field", "is not in scope", "has no `", "was not admitted", "has too few arguments", "too many arguments", "no module is found"];
+const NAMES_NOTHING: [&str; 7] = [
+    "has no field",
+    "is not in scope",
+    "has no `",
+    "was not admitted",
+    "has too few arguments",
+    "too many arguments",
+    "no module is found",
+];
 
 impl Refusal {
     fn names_nothing(&self) -> bool {
@@ -119,7 +126,9 @@ mod tests {
     fn an_edit_may_be_taken_for_bad_by_what_cites_it() {
         assert!(cites_what_was_refused("BAD EDIT: the prover cannot read the edited text: ./proofs/A.antt:5:1: error: 1 declaration that depends on `a`, which was rejected, was not checked"));
         assert!(!cites_what_was_refused("BAD EDIT: an 'old:' text is in src/lib.rt 0 times"));
-        assert!(!cites_what_was_refused("refused, as it must be: ./proofs/A.antt:5:1: error: `b`: 2 declarations that depend on `a`, which was rejected"));
+        assert!(!cites_what_was_refused(
+            "refused, as it must be: ./proofs/A.antt:5:1: error: `b`: 2 declarations that depend on `a`, which was rejected"
+        ));
     }
 
     #[test]
@@ -143,7 +152,8 @@ mod tests {
         let note = "note: src/lib.rt:3:1: it is not proved that what the function ensures holds when it returns (`returns`)";
         assert_eq!(checked(note), refused("src/lib.rt:3:1"));
         assert_eq!(of_edit(&format!("refused, as it must be: {note}")), refused("src/lib.rt:3:1"));
-        let follows = "./proofs/f/Proof.antt:9:1: error: `f-spec`: `close` was not admitted (it has holes or undetermined implicits, \
+        let follows =
+            "./proofs/f/Proof.antt:9:1: error: `f-spec`: `close` was not admitted (it has holes or undetermined implicits, \
                        or was rejected), so this cannot be checked";
         assert_eq!(checked(&format!("{follows}\n{note}")), refused("src/lib.rt:3:1"));
     }
@@ -159,13 +169,20 @@ mod tests {
             "",
         ] {
             assert!(matches!(checked(error), Verdict::Unfit(_)), "{error}");
-            assert!(matches!(of_edit(&format!("refused, as it must be: {}", error.replace('\n', ""))), Verdict::Unfit(_)), "{error}");
+            assert!(
+                matches!(of_edit(&format!("refused, as it must be: {}", error.replace('\n', ""))), Verdict::Unfit(_)),
+                "{error}"
+            );
         }
     }
 
     #[test]
     fn a_refusal_that_shows_little_is_no_fact() {
-        for why in [" (only because a proof file names what the edit took away, so this says little): ./proofs/f/Answers.antt:5:1: x", "", " (only by a limit): x"] {
+        for why in [
+            " (only because a proof file names what the edit took away, so this says little): ./proofs/f/Answers.antt:5:1: x",
+            "",
+            " (only by a limit): x",
+        ] {
             assert!(matches!(of_edit(&format!("refused, as it must be{why}")), Verdict::Unfit(_)), "{why}");
         }
     }
@@ -173,7 +190,10 @@ mod tests {
     #[test]
     fn without_a_verdict_of_the_prover_nothing_is_refused() {
         assert_eq!(of_edit("NOT REFUSED: the crate is still proved with this edit"), Verdict::Survived);
-        assert_eq!(of_edit("BAD EDIT: it did not reach the prover"), Verdict::Unreached("it did not reach the prover".to_string()));
+        assert_eq!(
+            of_edit("BAD EDIT: it did not reach the prover"),
+            Verdict::Unreached("it did not reach the prover".to_string())
+        );
         assert!(matches!(of_edit("NOT TRIED: its check was killed"), Verdict::Unreached(_)));
         let fact = "./proofs/f/Proof.antt:5:1: error: `returns`: the two types differ";
         assert!(matches!(of_check(fact), Verdict::Unreached(_)));
