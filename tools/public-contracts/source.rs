@@ -41,33 +41,52 @@ impl Function {
     }
 }
 
-/// The public functions of a text, in their order.
+/// What stands around a function: an `impl` or a trait.
+struct Owner {
+    name: String,
+    /// Its functions are a trait's, so that they are public where the trait is, and do not say so.
+    of_trait: bool,
+}
+
+/// The public functions of a text, in their order. A trait's are those of each of its `impl`s, by the type, and those whose body stands in the trait.
 pub fn functions(text: &str) -> Vec<Function> {
     let text: String = text.lines().map(|line| line.split("//").next().unwrap_or("").to_string() + "\n").collect();
-    let (mut found, mut owner, mut at) = (Vec::new(), None, 0);
+    let (mut found, mut owner, mut at): (Vec<Function>, Option<Owner>, usize) = (Vec::new(), None, 0);
     for line in text.split_inclusive('\n') {
         if let Some(rest) = line.strip_prefix("impl") {
             owner = Some(owner_in(rest));
+        } else if let Some(rest) = line.strip_prefix("pub ").unwrap_or(line).strip_prefix("trait ") {
+            owner = Some(Owner { name: word(rest), of_trait: true });
         } else if line.starts_with('}') {
             owner = None;
-        } else if let Some(name) = begun(line) {
-            let path = owner.iter().cloned().chain([name]).collect();
-            found.push(function(path, &text[at..]));
+        } else if let Some(name) = begun(line, owner.as_ref().map_or(false, |owner| owner.of_trait)) {
+            let path = owner.iter().map(|owner| owner.name.clone()).chain([name]).collect();
+            found.extend(function(path, &text[at..]));
         }
         at += line.len();
     }
     found
 }
 
-/// The type behind `impl` and, where there are some, its lifetimes.
-fn owner_in(rest: &str) -> String {
+/// The type behind `impl` and, where there are some, its lifetimes. Where it is one of a trait, the type's words and the trait's, as the prover joins
+/// them: of `impl Field for u16` it is `U16Field`.
+fn owner_in(rest: &str) -> Owner {
     let rest = if rest.starts_with('<') { rest.split_once('>').map_or("", |(_, rest)| rest) } else { rest };
-    word(rest.trim_start())
+    match rest.trim_end_matches([' ', '{', '\n']).split_once(" for ") {
+        Some((implemented, of)) => Owner { name: joined(of) + &joined(implemented), of_trait: true },
+        None => Owner { name: word(rest.trim_start()), of_trait: false },
+    }
 }
 
-/// The name of the public function that begins on a line.
-fn begun(line: &str) -> Option<String> {
-    let (before, rest) = line.trim_start().strip_prefix("pub ")?.split_once("fn ")?;
+fn joined(text: &str) -> String {
+    let words = text.split(|c: char| !c.is_alphanumeric()).filter(|word| !word.is_empty());
+    words.map(|word| word[..1].to_uppercase() + &word[1..]).collect()
+}
+
+/// The name of the public function that begins on a line. Where `all` are public, none says so.
+fn begun(line: &str, all: bool) -> Option<String> {
+    let line = line.trim_start();
+    let (before, rest) = line.strip_prefix("pub ").or(all.then(|| line))?.split_once("fn ")?;
     let is_plain = before.is_empty() || before.ends_with(' ') && !before.contains(|c: char| ":=({;".contains(c));
     is_plain.then(|| word(rest))
 }
@@ -76,7 +95,8 @@ fn word(text: &str) -> String {
     text.chars().take_while(|c| c.is_alphanumeric() || *c == '_').collect()
 }
 
-fn function(path: Vec<String>, text: &str) -> Function {
+/// The function that begins a text, if it has a body.
+fn function(path: Vec<String>, text: &str) -> Option<Function> {
     let (inside, mut rest) = enclosed(text, '(', ')');
     let begun = rest;
     let parameters: Vec<Parameter> = split(inside).into_iter().map(parameter).collect();
@@ -84,6 +104,9 @@ fn function(path: Vec<String>, text: &str) -> Function {
     let mut clauses = Vec::new();
     loop {
         let before = rest.split('{').next().unwrap_or("");
+        if is_ended(before) {
+            return None;
+        }
         // The kind of a clause, behind which it may have a name.
         let kind = before.split_whitespace().rev().take(2).find(|word| ["ensures", "requires"].contains(word));
         let (clause, behind) = enclosed(rest, '{', '}');
@@ -92,11 +115,24 @@ fn function(path: Vec<String>, text: &str) -> Function {
             Some(_) => (),
             None => {
                 let contract = one_line(&format!("({}) {}{before}", split(inside).join(", "), &begun[..begun.len() - rest.len()]));
-                return Function { path, parameters, answers, clauses, contract };
+                return Some(Function { path, parameters, answers, clauses, contract });
             }
         }
         rest = behind;
     }
+}
+
+/// Whether a `;` stands in no bracket.
+fn is_ended(text: &str) -> bool {
+    let mut depth = 0;
+    text.chars().any(|c| {
+        match c {
+            '(' | '[' => depth += 1,
+            ')' | ']' => depth -= 1,
+            _ => (),
+        }
+        c == ';' && depth == 0
+    })
 }
 
 fn one_line(text: &str) -> String {
@@ -215,6 +251,39 @@ pub(crate) fn inside() -> u8 {
 }
 "#;
 
+    const TRAIT: &str = r#"pub trait Field {
+    ghost width: { ℕ };
+
+    fn read(bytes: &[u8], at: usize) -> Self
+        requires { at + width ≤ length bytes.now }
+        ensures { value result ≡ field_at width bytes.now at };
+
+    fn pair(self) -> [u8; 2];
+
+    fn first(bytes: &[u8]) -> Self {
+        Self::read(bytes, 0)
+    }
+}
+
+impl Field for u16 {
+    ghost width = { 2 };
+
+    fn read(bytes: &[u8], at: usize) -> u16 {
+        own(bytes, at)
+    }
+
+    fn pair(self) -> [u8; 2]
+        ensures { result ≡ pair_of self }
+    {
+        [0; 2]
+    }
+}
+
+fn own(bytes: &[u8], at: usize) -> u16 {
+    7
+}
+"#;
+
     fn names(function: &Function) -> Vec<&str> {
         function.asked().into_iter().map(|what| function.name_of(what)).collect()
     }
@@ -223,6 +292,16 @@ pub(crate) fn inside() -> u8 {
     fn public_functions_and_methods_are_found() {
         let paths: Vec<String> = functions(TEXT).iter().map(|function| function.path.join("::")).collect();
         assert_eq!(paths, ["Reader::next", "Reader::put", "write"]);
+    }
+
+    #[test]
+    fn the_methods_of_a_traits_impls_are_public() {
+        let found = functions(TRAIT);
+        let paths: Vec<String> = found.iter().map(|function| function.path.join("::")).collect();
+        assert_eq!(paths, ["Field::first", "U16Field::read", "U16Field::pair"]);
+        assert_eq!(names(&found[1]), ["answer"]);
+        assert!(found[1].clauses.is_empty());
+        assert_eq!(found[2].clauses, ["result ≡ pair_of self"]);
     }
 
     #[test]

@@ -39,16 +39,33 @@ fn declared(text: &str) -> Vec<String> {
     found
 }
 
-/// The contract's name, and what a declaration says of it.
+/// The contract's name, and what a declaration says of it. A generic function's is said at every type and whatever its bounds bring.
 fn meant(said: &str) -> Option<(&str, What)> {
-    if let Some(name) = said.strip_prefix("Answers ") {
-        return Some((name.strip_suffix(".Learnt")?, What::Answer));
+    let (brought, said) = said.split_once(" → ").map_or(Some((Vec::new(), said)), |(binders, said)| Some((bound(binders)?, said)))?;
+    let (form, said) = said.split_once(' ')?;
+    let (name, shown) = if brought.is_empty() {
+        said.split_once(".Learnt")?
+    } else {
+        said.strip_prefix('(')?.split_once(&format!(".Learnt {})", brought.join(" ")))?
+    };
+    match (form, shown) {
+        ("Answers", "") | ("Shows", " (λ k r. r.now)") => Some((name, What::Answer)),
+        ("Leaves", _) => {
+            let path = shown.strip_prefix(" (λ k s. s")?.strip_suffix(".0.now)")?;
+            path.split('.').skip(1).all(|step| step == "1").then(|| (name, What::Left(path.matches(".1").count())))
+        }
+        _ => None,
     }
-    if let Some(words) = said.strip_prefix("Shows ") {
-        return Some((words.strip_suffix(".Learnt (λ k r. r.now)")?, What::Answer));
-    }
-    let (name, path) = said.strip_prefix("Leaves ")?.strip_suffix(".0.now)")?.split_once(".Learnt (λ k s. s")?;
-    path.split('.').skip(1).all(|step| step == "1").then(|| (name, What::Left(path.matches(".1").count())))
+}
+
+/// The names that `(T : RattleType) (L : Laws T) ..` binds: a type, and what a bound brings of it. Anything else would be a premise.
+fn bound(binders: &str) -> Option<Vec<&str>> {
+    let of_bound = |binder: &'_ str| {
+        let kind = binder.split_once(" : ")?.1.split(' ').next()?.rsplit('.').next()?;
+        ["RattleType", "Laws", "IsCopy", "Ghosts", "Dict"].contains(&kind).then_some(())
+    };
+    let binders = binders.strip_prefix('(')?.strip_suffix(')')?.split(") (");
+    binders.map(|binder| of_bound(binder).and(binder.split_once(" : ")).map(|(name, _)| name)).collect()
 }
 
 #[cfg(test)]
@@ -71,6 +88,22 @@ mod tests {
         assert_eq!(said("pub fact : Leaves bus_write.Learnt (λ k s. s.0.now)"), of_write(What::Left(0)));
         assert_eq!(said("pub fact : Leaves bus_write.Learnt\n    (λ k s. s.1.1.0.now)"), of_write(What::Left(2)));
         assert_eq!(said("pub fact : Answers reader_new.Learnt"), [("Rattle.trace.proofs.Reader.new".to_string(), What::Answer)]);
+    }
+
+    #[test]
+    fn a_generic_function_is_stated_at_every_type() {
+        let binders = "(T : RattleType) (L : Laws T) (C : IsCopy T) (F : kept.Ghosts T.Denot) (d : Dict)";
+        assert_eq!(said(&format!("pub fact : {binders} → Answers (bus_write.Learnt T L C F d)")), of_write(What::Answer));
+        assert_eq!(said(&format!("pub fact : {binders}\n    → Leaves (bus_write.Learnt T L C F d) (λ k s. s.1.0.now)")), of_write(What::Left(1)));
+        for declaration in [
+            "pub fact : (T : RattleType) (L : Laws T) → Answers (bus_write.Learnt L T)",
+            "pub fact : (T : RattleType) (L : Laws T) → Answers bus_write.Learnt",
+            "pub fact : (T : RattleType) (e : ⊥) → Answers (bus_write.Learnt T e)",
+            "pub fact : (T : RattleType) (F : Ghosts T.Denot) → ((m n : T.Denot) → m ≡ n) → Answers (bus_write.Learnt T F)",
+            "pub fact : (T : RattleType) → Leaves (bus_write.Learnt T) (λ k s. 0)",
+        ] {
+            assert!(said(declaration).is_empty(), "{declaration}");
+        }
     }
 
     #[test]

@@ -1,4 +1,5 @@
 -- The windows, the verdict by its tests, and what an accepted access may rely on.
+use Rattle.std.specs.Prelude.{Ok, Err, Result}
 use mathlib.Core.Bool.{Bool, true, false, not}
 use mathlib.Core.List.{[], ◌∷◌}
 use mathlib.Core.Path.{◌≡◌, refl, ap, ◌∙◌}
@@ -14,8 +15,9 @@ use Rattle.cartridge.specs.Fit.{fit_cart}
 use Rattle.cartridge.specs.declared.Cartridge.{Cartridge}
 use Rattle.access.specs.Verdict.{in_rom, in_ram, noes_by, verdict_by, noes, verdict_of}
 use Rattle.access.specs.declared.BusRefusal.TheVariants.{Unfit, WrongLength, BadAddress, BadSelection}
-use Rattle.access.specs.declared.Verdict.{Verdict}
-use Rattle.access.specs.declared.Verdict.TheVariants.{Rom, Ram, Refuse}
+use Rattle.access.specs.declared.Target.{Target}
+use Rattle.access.specs.declared.BusRefusal.{BusRefusal}
+use Rattle.access.specs.declared.Target.TheVariants.{Rom, Ram}
 
 -- ---- the windows
 
@@ -41,11 +43,11 @@ ram_bounds addr e =
 -- ---- the verdict
 
 -- by the five tests: whether the state is fit, what is lent right, the address in the ROM or in the RAM window, the selection bad
-abbrev pub by_tests_lem : Bool → Bool → Bool → Bool → Bool → Verdict
+abbrev pub by_tests_lem : Bool → Bool → Bool → Bool → Bool → Result Target BusRefusal
 by_tests_lem fit lent rom ram bad =
-    first_no Refuse
+    first_no Err
     (no (not fit) Unfit ∷ no (not lent) WrongLength ∷ no (not (either rom ram)) BadAddress ∷ no bad BadSelection ∷ [])
-    (pick rom Rom Ram)
+    (pick rom (Ok Rom) (Ok Ram))
 
 module _ (fit lent : Bool) (addr : ℕ) (bad : Bool) where
   pub decided : {f l i r b : Bool} → fit ≡ f → lent ≡ l → in_rom addr ≡ i → in_ram addr ≡ r → bad ≡ b
@@ -60,32 +62,32 @@ module _ (c : Cartridge) (lent : Bool) (addr : ℕ) (bad : Bool) where
 
   -- a fit state, lent its own: a window, 15 or 16
   module _ (f : fit_cart c ≡ true) (l : lent ≡ true) where
-    pub window_given : either (in_rom addr) (in_ram addr) ≡ true → bad ≡ false → verdict_of c lent addr bad ≡ pick (in_rom addr) Rom Ram
+    pub window_given : either (in_rom addr) (in_ram addr) ≡ true → bad ≡ false → verdict_of c lent addr bad ≡ pick (in_rom addr) (Ok Rom) (Ok Ram)
     unfolding verdict_of noes
     window_given w b = rw (f, l, w, b) refl
 
-    pub fifteen_given : either (in_rom addr) (in_ram addr) ≡ false → verdict_of c lent addr bad ≡ Refuse BadAddress
+    pub fifteen_given : either (in_rom addr) (in_ram addr) ≡ false → verdict_of c lent addr bad ≡ Err BadAddress
     unfolding verdict_of noes
     fifteen_given w = rw (f, l, w) refl
 
-    pub sixteen_given : either (in_rom addr) (in_ram addr) ≡ true → bad ≡ true → verdict_of c lent addr bad ≡ Refuse BadSelection
+    pub sixteen_given : either (in_rom addr) (in_ram addr) ≡ true → bad ≡ true → verdict_of c lent addr bad ≡ Err BadSelection
     unfolding verdict_of noes
     sixteen_given w b = rw (f, l, w, b) refl
 
   -- an access that is not refused
-  abbrev taken : Verdict → Bool
-  taken Rom = true
-  taken Ram = true
-  taken (Refuse w) = false
+  abbrev taken : Result Target BusRefusal → Bool
+  taken (Ok Rom) = true
+  taken (Ok Ram) = true
+  taken (Err w) = false
 
-  none : (v : Verdict) → verdict_of c lent addr bad ≡ v → taken v ≡ true → any_no (noes c lent addr bad) ≡ false
+  none : (v : Result Target BusRefusal) → verdict_of c lent addr bad ≡ v → taken v ≡ true → any_no (noes c lent addr bad) ≡ false
   unfolding verdict_of
-  none v e t = none_if taken Refuse (λ w. refl) (noes c lent addr bad) (pick (in_rom addr) Rom Ram) (ap taken e ∙ t)
+  none v e t = none_if taken Err (λ w. refl) (noes c lent addr bad) (pick (in_rom addr) (Ok Rom) (Ok Ram)) (ap taken e ∙ t)
 
-  pub taken_fit : (v : Verdict) → verdict_of c lent addr bad ≡ v → taken v ≡ true → fit_cart c ≡ true
+  pub taken_fit : (v : Result Target BusRefusal) → verdict_of c lent addr bad ≡ v → taken v ≡ true → fit_cart c ≡ true
   unfolding noes
   taken_fit v e t = not_false _ (none_at (noes c lent addr bad) 0 (no false Unfit) refl (none v e t))
 
-  pub taken_lent : (v : Verdict) → verdict_of c lent addr bad ≡ v → taken v ≡ true → lent ≡ true
+  pub taken_lent : (v : Result Target BusRefusal) → verdict_of c lent addr bad ≡ v → taken v ≡ true → lent ≡ true
   unfolding noes
   taken_lent v e t = not_false _ (none_at (noes c lent addr bad) 1 (no false Unfit) refl (none v e t))

@@ -1,13 +1,13 @@
 -- Which accesses are refused, and the window of the others (Order 4, Numbers 13 to 16).
-use Rattle.std.specs.Prelude.{Bool, not, List, [], ◌∷◌, ℕ, leb}
+use Rattle.std.specs.Prelude.{Bool, not, List, [], ◌∷◌, ℕ, leb, Ok, Err, Result}
 use Rattle.facts.specs.Choice.{pick, both, either}
 use Rattle.facts.specs.Refusals.{No, no, first_no}
 use Rattle.cartridge.specs.Fit.{fit_cart}
 use Rattle.cartridge.specs.declared.Cartridge.{Cartridge}
 use Rattle.access.specs.declared.BusRefusal.{BusRefusal}
 use Rattle.access.specs.declared.BusRefusal.TheVariants.{Unfit, WrongLength, BadAddress, BadSelection}
-use Rattle.access.specs.declared.Verdict.{Verdict}
-use Rattle.access.specs.declared.Verdict.TheVariants.{Rom, Ram, Refuse}
+use Rattle.access.specs.declared.Target.{Target}
+use Rattle.access.specs.declared.Target.TheVariants.{Rom, Ram}
 
 abbrev pub number_of : BusRefusal → ℕ
 number_of Unfit = 13
@@ -33,12 +33,12 @@ noes_by fit lent addr bad =
     ∷ []
 
 -- the window that an accepted access is to
-abbrev pub verdict_by : ℕ → List (No BusRefusal) → Verdict
-verdict_by addr tests = first_no Refuse tests (pick (in_rom addr) Rom Ram)
+abbrev pub verdict_by : ℕ → List (No BusRefusal) → Result Target BusRefusal
+verdict_by addr tests = first_no Err tests (pick (in_rom addr) (Ok Rom) (Ok Ram))
 
 -- the same of a cartridge
 unfoldable pub noes : Cartridge → Bool → ℕ → Bool → List (No BusRefusal)
 noes c lent addr bad = noes_by (fit_cart c) lent addr bad
 
-unfoldable pub verdict_of : Cartridge → Bool → ℕ → Bool → Verdict
+unfoldable pub verdict_of : Cartridge → Bool → ℕ → Bool → Result Target BusRefusal
 verdict_of c lent addr bad = verdict_by addr (noes c lent addr bad)

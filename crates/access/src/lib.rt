@@ -8,7 +8,7 @@ ghost use Rattle.access.specs.Verdict.{number_of, noes_by, verdict_by, verdict_o
 use cartridge::Cartridge;
 
 // Why an access is not made, in the order of the tests.
-#[derive(Drop)]
+#[derive(Clone, Copy, Debug, PartialEq, Eq)]
 pub enum BusRefusal {
     Unfit,
     WrongLength,
@@ -16,12 +16,11 @@ pub enum BusRefusal {
     BadSelection,
 }
 
-// The window that an access is to, or why it is not made.
-#[derive(Drop)]
-pub enum Verdict {
+// The window that an access is to.
+#[derive(Clone, Copy, Debug, PartialEq, Eq)]
+pub enum Target {
     Rom,
     Ram,
-    Refuse(BusRefusal),
 }
 
 impl BusRefusal {
@@ -38,34 +37,34 @@ impl BusRefusal {
 }
 
 // By whether the state is fit, whether what is lent has the mounted lengths, and whether the access selects what there is not.
-pub fn decide(fit: bool, lent: bool, addr: u16, bad: bool) -> Verdict
+pub fn decide(fit: bool, lent: bool, addr: u16, bad: bool) -> Result<Target, BusRefusal>
     ensures { result ≡ verdict_by addr (noes_by fit lent addr bad) }
 {
     if !fit {
-        return Verdict::Refuse(BusRefusal::Unfit);
+        return Err(BusRefusal::Unfit);
     }
     if !lent {
-        return Verdict::Refuse(BusRefusal::WrongLength);
+        return Err(BusRefusal::WrongLength);
     }
     match addr {
         0x0000..=0x7FFF => {
             if bad {
-                return Verdict::Refuse(BusRefusal::BadSelection);
+                return Err(BusRefusal::BadSelection);
             }
-            Verdict::Rom
+            Ok(Target::Rom)
         }
         0xA000..=0xBFFF => {
             if bad {
-                return Verdict::Refuse(BusRefusal::BadSelection);
+                return Err(BusRefusal::BadSelection);
             }
-            Verdict::Ram
+            Ok(Target::Ram)
         }
-        _ => Verdict::Refuse(BusRefusal::BadAddress),
+        _ => Err(BusRefusal::BadAddress),
     }
 }
 
 // The same of a cartridge.
-pub fn judge(cart: Cartridge, lent: bool, addr: u16, bad: bool) -> Verdict
+pub fn judge(cart: Cartridge, lent: bool, addr: u16, bad: bool) -> Result<Target, BusRefusal>
     ensures { result ≡ verdict_of cart lent addr bad }
 {
     decide(cart.fit(), lent, addr, bad)

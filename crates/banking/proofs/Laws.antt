@@ -1,4 +1,5 @@
 -- Mapped places are within, each from the one law on modulo banking, and what a bank that cannot be 0 is within.
+use Rattle.std.specs.Prelude.{Some, None, Option}
 use mathlib.Core.Bool.{Bool, true, false}
 use mathlib.Core.Path.{◌≡◌, refl}
 use Prim.Native.Nat.{ℕ, ◌*◌, ◌/◌, ◌%◌, ◌<◌, ◌≤◌}
@@ -10,8 +11,6 @@ use Rattle.facts.proofs.ChoiceLaws.{both_true}
 use Rattle.facts.specs.Banking.{place_of}
 use Rattle.facts.proofs.BankingLaws.{place_lt}
 use Rattle.banking.specs.Banks.{or_one, from_one, rom_place, ram_place, banked_place, Inside}
-use Rattle.banking.specs.declared.RamAt.{RamAt}
-use Rattle.banking.specs.declared.RamAt.TheVariants.{At, NotMapped}
 
 pub or_one_within : (last n : ℕ) → 1 ≤ last → n ≤ last → from_one last (or_one n) ≡ true
 unfolding or_one
@@ -29,7 +28,7 @@ unfolding banked_place
 banked_inside size bank addr = go (ltb size 0x2000) refl
   where
     go : (b : Bool) → ltb size 0x2000 ≡ b
-        → Inside (pick b NotMapped (At (place_of 0x2000 (size / 0x2000) bank (addr % 0x2000)))) size
+        → Inside (pick b None (Some (place_of 0x2000 (size / 0x2000) bank (addr % 0x2000)))) size
     go true e = tt
     go false e =
         let big = ltb-false size 0x2000 e in
@@ -39,11 +38,11 @@ pub ram_inside : (size bank addr : ℕ) → Inside (ram_place size bank addr) si
 unfolding ram_place
 ram_inside size bank addr = go (eqb size 0x800) refl
   where
-    go : (b : Bool) → eqb size 0x800 ≡ b → Inside (pick b (At (addr % 0x800)) (banked_place size bank addr)) size
+    go : (b : Bool) → eqb size 0x800 ≡ b → Inside (pick b (Some (addr % 0x800)) (banked_place size bank addr)) size
     go true e = omega (arith, eqb-true size 0x800 e)
     go false e = banked_inside size bank addr
 
 -- what is mapped only where a test holds
-pub picked_inside : (b : Bool) (p : RamAt) (n : ℕ) → Inside p n → Inside (pick b p NotMapped) n
+pub picked_inside : (b : Bool) (p : Option ℕ) (n : ℕ) → Inside p n → Inside (pick b p None) n
 picked_inside true p n h = h
 picked_inside false p n h = tt

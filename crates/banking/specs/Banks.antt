@@ -1,9 +1,7 @@
 -- Where an address falls, by a bank taken modulo the number of banks (Bus 4, Bus 5).
-use Rattle.std.specs.Prelude.{Bool, ℕ, ◌/◌, ◌%◌, ◌<◌, eqb, ltb, leb}
+use Rattle.std.specs.Prelude.{Bool, ℕ, ◌/◌, ◌%◌, ◌<◌, eqb, ltb, leb, Some, None, Option}
 use Rattle.facts.specs.Choice.{pick, both}
 use Rattle.facts.specs.Banking.{place_of}
-use Rattle.banking.specs.declared.RamAt.{RamAt}
-use Rattle.banking.specs.declared.RamAt.TheVariants.{At, NotMapped}
 
 -- Bus 8: "A ROM bank, of MBC1 the low register, whose kept bits are all 0 becomes 1"
 unfoldable pub or_one : ℕ → ℕ
@@ -19,15 +17,15 @@ rom_place banks bank addr = place_of 0x4000 banks bank (addr % 0x4000)
 
 -- Bus 5: "taken modulo the RAM banks, size / 0x2000: the byte at (bank % banks) * 0x2000 + address % 0x2000 of the area .. RAM
 -- of less than one bank is not mapped"
-unfoldable pub banked_place : ℕ → ℕ → ℕ → RamAt
+unfoldable pub banked_place : ℕ → ℕ → ℕ → Option ℕ
 banked_place size bank addr =
-    pick (ltb size 0x2000) NotMapped (At (place_of 0x2000 (size / 0x2000) bank (addr % 0x2000)))
+    pick (ltb size 0x2000) None (Some (place_of 0x2000 (size / 0x2000) bank (addr % 0x2000)))
 
 -- Bus 5: "RAM of 0x800 repeats through the window on MBC1, MBC5 and without a mapper, by address % 0x800"
-unfoldable pub ram_place : ℕ → ℕ → ℕ → RamAt
-ram_place size bank addr = pick (eqb size 0x800) (At (addr % 0x800)) (banked_place size bank addr)
+unfoldable pub ram_place : ℕ → ℕ → ℕ → Option ℕ
+ram_place size bank addr = pick (eqb size 0x800) (Some (addr % 0x800)) (banked_place size bank addr)
 
 -- a place within an area of n bytes
-abbrev pub Inside : RamAt → ℕ → Type 0
-Inside (At i) n = i < n
-Inside NotMapped n = Unit {0}
+abbrev pub Inside : Option ℕ → ℕ → Type 0
+Inside (Some i) n = i < n
+Inside None n = Unit {0}

@@ -5,13 +5,6 @@
 ghost use Rattle.std.specs.Prelude.{◌≡◌, ◌<◌};
 ghost use Rattle.banking.specs.Banks.{or_one, rom_place, ram_place, banked_place};
 
-// A place in the RAM area, or none.
-#[derive(Drop)]
-pub enum RamAt {
-    At(usize),
-    NotMapped,
-}
-
 // A bank number as a register takes it that cannot hold 0.
 pub fn or_one(n: u8) -> u8
     ensures { result ≡ or_one n }
@@ -28,23 +21,23 @@ pub fn rom_place(banks: u16, bank: u16, addr: u16) -> usize
     at * 0x4000 + ((addr & 0x3FFF) as usize)
 }
 
-// The place of an address of the RAM window in the RAM area.
-pub fn ram_place(size: usize, bank: u8, addr: u16) -> RamAt
+// The place of an address of the RAM window in the RAM area; none where nothing is mapped.
+pub fn ram_place(size: usize, bank: u8, addr: u16) -> Option<usize>
     ensures { result ≡ ram_place size bank addr }
 {
     if size == 0x800 {
-        return RamAt::At((addr & 0x7FF) as usize);
+        return Some((addr & 0x7FF) as usize);
     }
     banked_place(size, bank, addr)
 }
 
 // The same without the 2 KiB that repeat.
-pub fn banked_place(size: usize, bank: u8, addr: u16) -> RamAt
+pub fn banked_place(size: usize, bank: u8, addr: u16) -> Option<usize>
     ensures { result ≡ banked_place size bank addr }
 {
     if size < 0x2000 {
-        return RamAt::NotMapped;
+        return None;
     }
     let at = (bank as usize) % (size / 0x2000);
-    RamAt::At(at * 0x2000 + ((addr & 0x1FFF) as usize))
+    Some(at * 0x2000 + ((addr & 0x1FFF) as usize))
 }

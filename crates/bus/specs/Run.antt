@@ -1,18 +1,14 @@
 -- A sequence of accesses to a mounted cartridge: what each is answered, and what is left at the end. A refused access is
 -- answered with its number, changes nothing, and the next one follows.
-use Rattle.std.specs.Prelude.{true, List, [], ◌∷◌, ◌≡◌, ℕ, length}
+use Rattle.std.specs.Prelude.{true, List, [], ◌∷◌, ◌≡◌, ℕ, length, Ok, Err, Result}
 use Rattle.clock.specs.Ticking as clock
+use Rattle.clock.specs.declared.AdvanceRefusal.{AdvanceRefusal}
 use Rattle.cartridge.specs.Fit.{fit_cart, area_of}
 use Rattle.cartridge.specs.declared.Cartridge.{Cartridge}
 use Rattle.access.specs.Verdict.{number_of}
+use Rattle.access.specs.declared.BusRefusal.{BusRefusal}
 use Rattle.bus.specs.Bus.{read_of, write_of, area_after}
 use Rattle.bus.specs.Advance.{advance_of}
-use Rattle.bus.specs.declared.ReadAnswer.{ReadAnswer}
-use Rattle.bus.specs.declared.ReadAnswer.TheVariants as read
-use Rattle.bus.specs.declared.WriteAnswer.{WriteAnswer}
-use Rattle.bus.specs.declared.WriteAnswer.TheVariants as write
-use Rattle.bus.specs.declared.Advanced.{Advanced}
-use Rattle.bus.specs.declared.Advanced.TheVariants as advanced
 
 pub data Access : Type 0 where
   reads : ℕ → Access
@@ -40,18 +36,18 @@ pub record Left : Type 0 where
   pub answer : Answer
   pub left : Machine
 
-abbrev pub after_read : Machine → ReadAnswer → Left
-after_read m (read.Byte b) = record { answer = gave b; left = m }
-after_read m (read.Refuse w) = record { answer = refused (number_of w); left = m }
+abbrev pub after_read : Machine → Result ℕ BusRefusal → Left
+after_read m (Ok b) = record { answer = gave b; left = m }
+after_read m (Err w) = record { answer = refused (number_of w); left = m }
 
-abbrev pub after_write : Machine → WriteAnswer → List ℕ → Left
-after_write m (write.Done c) area = record { answer = took; left = record { cart = c; area = area } }
-after_write m (write.Refuse w) area =
+abbrev pub after_write : Machine → Result Cartridge BusRefusal → List ℕ → Left
+after_write m (Ok c) area = record { answer = took; left = record { cart = c; area = area } }
+after_write m (Err w) area =
     record { answer = refused (number_of w); left = record { cart = m.cart; area = area } }
 
-abbrev pub after_clocks : Machine → Advanced → Left
-after_clocks m (advanced.To c) = record { answer = took; left = record { cart = c; area = m.area } }
-after_clocks m (advanced.Refuse w) = record { answer = refused (clock.number_of w); left = m }
+abbrev pub after_clocks : Machine → Result Cartridge AdvanceRefusal → Left
+after_clocks m (Ok c) = record { answer = took; left = record { cart = c; area = m.area } }
+after_clocks m (Err w) = record { answer = refused (clock.number_of w); left = m }
 
 -- one access to a cartridge mounted from rom
 abbrev pub step_of : List ℕ → Machine → Access → Left

@@ -8,28 +8,10 @@ ghost use Rattle.cartridge.specs.Fit.{fit_cart};
 ghost use Rattle.bus.specs.Bus.{rom_byte, read_of, write_of, area_after};
 ghost use Rattle.bus.specs.Advance.{advance_of, from_mapper};
 
-use access::{BusRefusal, Verdict};
+use access::{BusRefusal, Target};
 use cartridge::Cartridge;
 use clock::AdvanceRefusal;
 use facts::both;
-
-#[derive(Drop)]
-pub enum ReadAnswer {
-    Byte(u8),
-    Refuse(BusRefusal),
-}
-
-#[derive(Drop)]
-pub enum WriteAnswer {
-    Done(Cartridge),
-    Refuse(BusRefusal),
-}
-
-#[derive(Drop)]
-pub enum Advanced {
-    To(Cartridge),
-    Refuse(AdvanceRefusal),
-}
 
 fn rom_byte(cart: Cartridge, rom: &[u8], addr: u16) -> u8
     requires { fit_cart cart ≡ true }
@@ -41,59 +23,50 @@ fn rom_byte(cart: Cartridge, rom: &[u8], addr: u16) -> u8
 }
 
 // What an address reads. Lent are the image as it was mounted and the RAM area.
-pub fn read(cart: Cartridge, rom: &[u8], ram: &[u8], addr: u16) -> ReadAnswer
+pub fn read(cart: Cartridge, rom: &[u8], ram: &[u8], addr: u16) -> Result<u8, BusRefusal>
     ensures { result ≡ read_of cart rom.now ram.now addr }
 {
     let lent = both(rom.len() == cart.length, cart.is_area(ram.len()));
-    match access::judge(cart, lent, addr, false) {
-        Verdict::Rom => ReadAnswer::Byte(rom_byte(cart, rom, addr)),
-        Verdict::Ram => {
-            let mapper = cart.mapper;
-            ReadAnswer::Byte(window::read(mapper, cart.size, ram, addr))
-        }
-        Verdict::Refuse(why) => ReadAnswer::Refuse(why),
+    let target = access::judge(cart, lent, addr, false)?;
+    match target {
+        Target::Rom => Ok(rom_byte(cart, rom, addr)),
+        Target::Ram => Ok(window::read(cart.mapper, cart.size, ram, addr)),
     }
 }
 
 // A byte written to an address. Lent is the RAM area alone: a write never looks at the image.
-pub fn write(cart: Cartridge, ram: &mut [u8], addr: u16, byte: u8) -> WriteAnswer
+pub fn write(cart: Cartridge, ram: &mut [u8], addr: u16, byte: u8) -> Result<Cartridge, BusRefusal>
     ensures value { result ≡ write_of cart ram.old addr byte }
     ensures ram_after { ram.new ≡ area_after cart ram.old addr byte }
 {
     let mapper = cart.mapper;
     let bad = mapper.bad_selection(addr, byte);
-    match access::judge(cart, cart.is_area(ram.len()), addr, bad) {
-        Verdict::Rom => WriteAnswer::Done(Cartridge {
+    let target = access::judge(cart, cart.is_area(ram.len()), addr, bad)?;
+    match target {
+        Target::Rom => Ok(Cartridge {
             mapper: mapper.write_register(addr, byte),
             ..cart
         }),
-        Verdict::Ram => WriteAnswer::Done(Cartridge {
+        Target::Ram => Ok(Cartridge {
             mapper: window::write(mapper, cart.size, ram, addr, byte),
             ..cart
         }),
-        Verdict::Refuse(why) => WriteAnswer::Refuse(why),
     }
 }
 
-fn advance_mapper(cart: Cartridge, n: u64) -> Advanced
+fn advance_mapper(cart: Cartridge, n: u64) -> Result<Cartridge, AdvanceRefusal>
     ensures { result ≡ from_mapper cart (moving.advance_of cart.mapper n) }
 {
-    let mapper = cart.mapper;
-    match mapper.advance(n) {
-        mapper::Advanced::To(next) => Advanced::To(Cartridge {
-            mapper: next,
-            ..cart
-        }),
-        mapper::Advanced::Refuse(why) => Advanced::Refuse(why),
-    }
+    let mapper = cart.mapper.advance(n)?;
+    Ok(Cartridge { mapper, ..cart })
 }
 
 // n mapper clocks on. The mapper tests its own registers, so only what was mounted is tested here.
-pub fn advance(cart: Cartridge, n: u64) -> Advanced
+pub fn advance(cart: Cartridge, n: u64) -> Result<Cartridge, AdvanceRefusal>
     ensures { result ≡ advance_of cart n }
 {
     if !cart.fit_board() {
-        return Advanced::Refuse(AdvanceRefusal::Unfit);
+        return Err(AdvanceRefusal::Unfit);
     }
     advance_mapper(cart, n)
 }

@@ -2,7 +2,8 @@
 // `C 5` clocks passed, `F 512` RAM filled, `X 15` refused; and what a cartridge and its RAM area are.
 #![tactic(auto)]
 
-use bus::{Advanced, ReadAnswer, WriteAnswer};
+use bus_recipe::build;
+use bus_recipe::steps::Step;
 use cartridge::Cartridge;
 use std::io;
 
@@ -11,11 +12,7 @@ fn digit(n: u16) -> u8 {
     if d < 10 { 48 + d } else { 55 + d }
 }
 
-// No letter, no line.
 fn line(rt: &impl Print, letter: u8, addr: u16, byte: u8) -> io::Result<()> {
-    if letter == 0 {
-        return Ok(());
-    }
     let b = byte as u16;
     let out = [
         letter,
@@ -56,10 +53,10 @@ pub fn number(rt: &impl Print, letter: u8, n: u64) -> io::Result<()> {
 }
 
 // The cartridge that was mounted: length, type byte, banks, RAM size.
-pub fn heading(rt: &impl Print, cart: Cartridge, codes: u32) -> io::Result<()> {
+pub fn heading(rt: &impl Print, cart: Cartridge, type_byte: u8) -> io::Result<()> {
     print!(rt; "M")?;
     field(rt, cart.length as u64)?;
-    field(rt, (codes / 65536 % 256) as u64)?;
+    field(rt, type_byte as u64)?;
     field(rt, cart.banks as u64)?;
     field(rt, cart.size as u64)?;
     println!(rt)
@@ -80,8 +77,8 @@ pub fn sum(bytes: &[u8]) -> u64 {
 
 fn read(rt: &impl Print, cart: Cartridge, rom: &[u8], ram: &[u8], addr: u16) -> io::Result<()> {
     match bus::read(cart, rom, ram, addr) {
-        ReadAnswer::Byte(b) => line(rt, b'R', addr, b),
-        ReadAnswer::Refuse(why) => number(rt, b'X', why.number() as u64),
+        Ok(b) => line(rt, b'R', addr, b),
+        Err(why) => number(rt, b'X', why.number() as u64),
     }
 }
 
@@ -89,16 +86,32 @@ fn write(
     rt: &impl Print,
     cart: Cartridge,
     ram: &mut [u8],
-    letter: u8,
     addr: u16,
     byte: u8,
 ) -> io::Result<Cartridge> {
     match bus::write(cart, ram, addr, byte) {
-        WriteAnswer::Done(next) => {
-            line(rt, letter, addr, byte)?;
+        Ok(next) => {
+            line(rt, b'W', addr, byte)?;
             Ok(next)
         }
-        WriteAnswer::Refuse(why) => {
+        Err(why) => {
+            number(rt, b'X', why.number() as u64)?;
+            Ok(cart)
+        }
+    }
+}
+
+// With no line, unless it is refused.
+fn quiet(
+    rt: &impl Print,
+    cart: Cartridge,
+    ram: &mut [u8],
+    addr: u16,
+    byte: u8,
+) -> io::Result<Cartridge> {
+    match bus::write(cart, ram, addr, byte) {
+        Ok(next) => Ok(next),
+        Err(why) => {
             number(rt, b'X', why.number() as u64)?;
             Ok(cart)
         }
@@ -107,11 +120,11 @@ fn write(
 
 fn advance(rt: &impl Print, cart: Cartridge, n: u64) -> io::Result<Cartridge> {
     match bus::advance(cart, n) {
-        Advanced::To(next) => {
+        Ok(next) => {
             number(rt, b'C', n)?;
             Ok(next)
         }
-        Advanced::Refuse(why) => {
+        Err(why) => {
             number(rt, b'X', why.number() as u64)?;
             Ok(cart)
         }
@@ -120,9 +133,9 @@ fn advance(rt: &impl Print, cart: Cartridge, n: u64) -> io::Result<Cartridge> {
 
 // The bank, then the byte: a mix of its place n in the area, moved behind all places of an image.
 fn filled_at(rt: &impl Print, cart: Cartridge, ram: &mut [u8], n: usize) -> io::Result<Cartridge> {
-    let banked = write(rt, cart, ram, 0, 0x4000, (n / 0x2000 % 16) as u8)?;
-    let byte = bus_recipe::build::mixed(n % 0x800000 + 0x800000);
-    write(rt, banked, ram, 0, (0xA000 + n % 0x2000) as u16, byte)
+    let banked = quiet(rt, cart, ram, 0x4000, (n / 0x2000 % 16) as u8)?;
+    let byte = build::mixed(n % 0x800000 + 0x800000);
+    quiet(rt, banked, ram, (0xA000 + n % 0x2000) as u16, byte)
 }
 
 fn filled(rt: &impl Print, start: Cartridge, ram: &mut [u8]) -> io::Result<Cartridge> {
@@ -135,38 +148,36 @@ fn filled(rt: &impl Print, start: Cartridge, ram: &mut [u8]) -> io::Result<Cartr
     Ok(cart)
 }
 
-// A code is the line's letter and then an address and a byte, or a count of clocks, or nothing: 0x52_A000_00, 0x57_A000_5C,
-// 0x43_000005, 0x46_000000. A small `w`, 0x77_4000_08, is written with no line.
-fn step(
+fn take(
     rt: &impl Print,
     cart: Cartridge,
     rom: &[u8],
     ram: &mut [u8],
-    code: u32,
+    step: Step,
 ) -> io::Result<Cartridge> {
-    let addr = (code / 256 % 65536) as u16;
-    match (code / 0x1000000) as u8 {
-        b'R' => {
+    match step {
+        Step::Read(addr) => {
             read(rt, cart, rom, ram, addr)?;
             Ok(cart)
         }
-        b'W' => write(rt, cart, ram, b'W', addr, (code % 256) as u8),
-        b'w' => write(rt, cart, ram, 0, addr, (code % 256) as u8),
-        b'C' => advance(rt, cart, (code % 0x1000000) as u64),
-        _ => filled(rt, cart, ram),
+        Step::Write(addr, byte) => write(rt, cart, ram, addr, byte),
+        Step::Quiet(addr, byte) => quiet(rt, cart, ram, addr, byte),
+        Step::Clocks(n) => advance(rt, cart, n),
+        Step::Fill => filled(rt, cart, ram),
     }
 }
 
+// Each step in its turn, and its line.
 pub fn each(
     rt: &impl Print,
     start: Cartridge,
     rom: &[u8],
     ram: &mut [u8],
-    codes: &[u32],
+    steps: &[Step],
 ) -> io::Result<Cartridge> {
     let mut cart = start;
-    for code in codes {
-        cart = step(rt, cart, rom, ram, *code)?;
+    for step in steps {
+        cart = take(rt, cart, rom, ram, *step)?;
     }
     Ok(cart)
 }

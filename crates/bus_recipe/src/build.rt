@@ -22,22 +22,37 @@ fn rom_byte(place: usize) -> u8 {
 }
 
 pub fn fill(image: &mut [u8; 0x800000]) {
-    let mut i: usize = 0;
-    while i < 0x800000 {
-        image[i] = rom_byte(i);
-        i += 1;
+    for (place, byte) in image.iter_mut().enumerate() {
+        *byte = rom_byte(place);
     }
 }
 
-// Type byte, ROM code and RAM code from one number, and the checksum of these and 22 zeros. The fourth quarter's logo is whole
-// with RAM code 3 alone: other images of 64 banks are no multicart.
-pub fn header(image: &mut [u8; 0x800000], case: u64) {
-    let ty = case / 65536 % 256;
-    let rom = case / 256 % 256;
-    let ram = case % 256;
-    image[0x147] = ty as u8;
-    image[0x148] = rom as u8;
-    image[0x149] = ram as u8;
-    image[0x14D] = ((1024 - 25 - ty - rom - ram) % 256) as u8;
-    image[0xC0133] = ((0x3B + ram) % 256) as u8;
+// What a case lends, and three bytes of its header.
+#[derive(Clone, Copy)]
+pub struct Case {
+    // The RAM area's length in bytes.
+    pub area: usize,
+    // The image's length in bytes.
+    pub length: usize,
+    pub type_byte: u8,
+    pub rom_code: u8,
+    pub ram_code: u8,
+}
+
+impl Case {
+    // What the draw of its accesses begins with.
+    pub fn seed(self) -> u32 {
+        u32::from_be_bytes([0, self.type_byte, self.rom_code, self.ram_code])
+    }
+}
+
+// The case's three bytes, and the checksum of these and 22 zeros. The fourth quarter's logo is whole with RAM code 3 alone: other
+// images of 64 banks are no multicart.
+pub fn header(image: &mut [u8; 0x800000], case: Case) {
+    image[0x147] = case.type_byte;
+    image[0x148] = case.rom_code;
+    image[0x149] = case.ram_code;
+    let sum = case.type_byte as u32 + case.rom_code as u32 + case.ram_code as u32;
+    image[0x14D] = ((1024 - 25 - sum) % 256) as u8;
+    image[0xC0133] = ((0x3B + case.ram_code as u32) % 256) as u8;
 }

@@ -1,5 +1,18 @@
-// The images and the drawn accesses of the program that shows the bus, by recipes that can be followed elsewhere.
+// The images, cases and drawn accesses of the programs that show the bus and the save file, by recipes that can be followed
+// elsewhere.
 #![tactic(auto)]
 
 pub mod build;
 pub mod draw;
+pub mod steps;
+
+ghost use Rattle.std.specs.Prelude.{◌≡◌, IfOk, vec_len};
+
+use std::alloc::{AllocError, Global};
+
+// Where an image is filled. It is on the heap: a stack has no room for it.
+pub fn blank(alloc: Global) -> Result<Vec<u8>, AllocError>
+    ensures { IfOk result (λ image. vec_len image ≡ 0x800000) }
+{
+    vec![in alloc; 0; 0x800000]
+}

@@ -2,6 +2,7 @@
 // least byte first.
 #![tactic(auto)]
 
+use bytes_le::Field;
 use std::io;
 
 fn show(rt: &impl Print, b: u8) -> io::Result<()> {
@@ -24,15 +25,15 @@ fn fields(rt: &impl Print, bytes: &mut [u8]) -> io::Result<()> {
     if bytes.len() != 20 {
         return Ok(());
     }
-    bytes_le::write_u16(bytes, 1, 0x1234);
-    bytes_le::write_u32(bytes, 4, 0x89ABCDEF);
-    bytes_le::write_u64(bytes, 9, 0x0123456789ABCDEF);
-    bytes_le::write_u16(bytes, 18, 0xFF00);
+    u16::write(bytes, 1, 0x1234);
+    u32::write(bytes, 4, 0x89ABCDEF);
+    u64::write(bytes, 9, 0x0123456789ABCDEF);
+    u16::write(bytes, 18, 0xFF00);
     show_all(rt, bytes)?;
-    number(rt, bytes_le::read_u16(bytes, 1) as u64)?;
-    number(rt, bytes_le::read_u32(bytes, 4) as u64)?;
-    number(rt, bytes_le::read_u64(bytes, 9))?;
-    number(rt, bytes_le::read_u64(bytes, 12))
+    number(rt, u16::read(bytes, 1) as u64)?;
+    number(rt, u32::read(bytes, 4) as u64)?;
+    number(rt, u64::read(bytes, 9))?;
+    number(rt, u64::read(bytes, 12))
 }
 
 fn main(rt: HostRuntime) -> io::Result<()> {

@@ -1,4 +1,5 @@
 -- The answers of a read, a write and a latch.
+use Rattle.std.specs.Prelude.{Some, None}
 use mathlib.Core.Bool.{Bool, true, false}
 use mathlib.Core.Path.{◌≡◌, sym, ap, ◌∙◌}
 use Prim.Native.Nat.{ℕ, ◌%◌, ◌<◌, ◌≤◌}
@@ -12,33 +13,31 @@ use Rattle.clock_registers.specs.Access.{readings, writings}
 use Rattle.clock_registers.specs.declared.Registers.{Registers}
 use Rattle.clock.specs.Access.{sub_after, shown_of, written_of, latched_of}
 use Rattle.clock.specs.declared.Clock.{Clock}
-use Rattle.clock.specs.declared.Shown.TheVariants as shown
-use Rattle.clock.specs.declared.Written.TheVariants as written
 
 -- ---- reads and writes, by whether the clock is frozen
 
 module _ (c : Clock) (n : ℕ) where
-  pub shown_nothing : 4 < n → shown.NoRegister ≡ shown_of c n
+  pub shown_nothing : 4 < n → None ≡ shown_of c n
   unfolding shown_of
   shown_nothing h = rw (le-ltb n 5 h)
 
   pub shown_by : (b : Bool) {x : ℕ} → n ≤ 4 → c.latched ≡ b → x ≡ get_or (readings (pick b c.frozen c.running)) n 0
-      → shown.Byte x ≡ shown_of c n
+      → Some x ≡ shown_of c n
   unfolding shown_of
   shown_by b h l e =
-      ap shown.Byte e
-      ∙ ap (λ (t : Bool). shown.Byte (get_or (readings (pick t c.frozen c.running)) n 0)) (sym l)
+      ap Some e
+      ∙ ap (λ (t : Bool). Some (get_or (readings (pick t c.frozen c.running)) n 0)) (sym l)
       ∙ rw (lt-ltb n 5 (omega arith))
 
 module _ (c : Clock) (n b : ℕ) where
-  pub written_nothing : 4 < n → written.NoRegister ≡ written_of c n b
+  pub written_nothing : 4 < n → None ≡ written_of c n b
   unfolding written_of
   written_nothing h = rw (le-ltb n 5 h)
 
   pub written_by : (t : Bool) {r f : Registers} {s : ℕ} → n ≤ 4 → c.latched ≡ t
       → r ≡ get_or (writings c.running b) n c.running → s ≡ sub_after n c.sub
       → f ≡ pick t (get_or (writings c.frozen b) n c.frozen) c.frozen
-      → written.To (record { running = r; sub = s; time = c.time; latched = c.latched; frozen = f }) ≡ written_of c n b
+      → Some (record { running = r; sub = s; time = c.time; latched = c.latched; frozen = f }) ≡ written_of c n b
   unfolding written_of
   written_by t h l e q p = rw (e, q, p, lt-ltb n 5 (omega arith), ← l)
 

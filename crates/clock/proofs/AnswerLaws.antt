@@ -1,4 +1,5 @@
 -- The answers of an advance, case by case.
+use Rattle.std.specs.Prelude.{Ok, Err, Some, None}
 use mathlib.Core.Bool.{Bool, true, false}
 use mathlib.Core.Path.{◌≡◌, refl, sym, ap, ◌∙◌}
 use Prim.Native.Nat.{ℕ, ◌+◌, ◌-◌, ◌/◌, ◌%◌, ◌<◌, ◌≤◌}
@@ -13,34 +14,32 @@ use Rattle.facts.proofs.CounterLaws.{low_ran, plain_grows}
 use Rattle.clock_registers.specs.Fit.{fit_registers}
 use Rattle.clock_registers.specs.Seconds.{seconds_on, forward_of}
 use Rattle.clock_registers.specs.declared.Registers.{Registers}
-use Rattle.clock_registers.specs.declared.Stepped.TheVariants as stepped
 use Rattle.clock_registers.proofs.SecondLaws.{stepped_only, unstepped_only}
 use Rattle.clock.specs.Fit.{fit_clock}
 use Rattle.clock.specs.Ticking.{clocks, ticks, advance_of, Gone}
 use Rattle.clock.specs.declared.Clock.{Clock}
 use Rattle.clock.specs.declared.AdvanceRefusal.TheVariants.{Unfit, Late}
-use Rattle.clock.specs.declared.Advanced.TheVariants.{To, Refuse}
 use Rattle.clock.proofs.TickLaws.{after, halted_ticks, moving_ticks}
 
 -- ---- by the two tests
 
 module _ (c : Clock) (n : ℕ) where
-  pub unfit_answer : fit_clock c ≡ false → Refuse Unfit ≡ advance_of c n
+  pub unfit_answer : fit_clock c ≡ false → Err Unfit ≡ advance_of c n
   unfolding advance_of
   unfit_answer e = rw e
 
   module _ (e : fit_clock c ≡ true) where
-    pub late_answer : 18446744073709551615 < (ticks n c).time → Refuse Late ≡ advance_of c n
+    pub late_answer : 18446744073709551615 < (ticks n c).time → Err Late ≡ advance_of c n
     unfolding advance_of
     late_answer h = rw (e, lt-ltb 18446744073709551615 (ticks n c).time h)
 
-    pub taken_answer : (ticks n c).time ≤ 18446744073709551615 → To (ticks n c) ≡ advance_of c n
+    pub taken_answer : (ticks n c).time ≤ 18446744073709551615 → Ok (ticks n c) ≡ advance_of c n
     unfolding advance_of
     taken_answer h = rw (e, le-ltb 18446744073709551615 (ticks n c).time h)
 
-    pub halted_answer : c.running.halt ≡ true → c.time < 18446744073709551616 → To c ≡ advance_of c n
+    pub halted_answer : c.running.halt ≡ true → c.time < 18446744073709551616 → Ok c ≡ advance_of c n
     halted_answer h t =
-        ap To (sym (halted_ticks n c h))
+        ap Ok (sym (halted_ticks n c h))
         ∙ taken_answer (rw (ap (λ (x : Clock). x.time) (halted_ticks n c h)) (omega arith))
 
 -- ---- what n clocks come to
@@ -86,19 +85,19 @@ pub rest_tested : (c : Clock) {t u : Bool} → t ≡ both u (ltb c.sub 2097152) 
 rest_tested c p q = sym (p ∙ ap (λ (u : Bool). both u (ltb c.sub 2097152)) q)
 
 module _ (c : Clock) (n : ℕ) where
-  pub unfit_rest : both (fit_registers c.frozen) (ltb c.sub 2097152) ≡ false → Refuse Unfit ≡ advance_of c n
+  pub unfit_rest : both (fit_registers c.frozen) (ltb c.sub 2097152) ≡ false → Err Unfit ≡ advance_of c n
   unfolding fit_clock
   unfit_rest e = unfit_answer c n (ap (both (fit_registers c.running)) e ∙ both_false (fit_registers c.running))
 
   module _ (f : both (fit_registers c.frozen) (ltb c.sub 2097152) ≡ true) {x k : ℕ}
       (g : Gone c.running.halt c.sub n x k) where
-    pub unfit_running : forward_of c.running k ≡ stepped.Unfit → Refuse Unfit ≡ advance_of c n
+    pub unfit_running : forward_of c.running k ≡ None → Err Unfit ≡ advance_of c n
     unfolding fit_clock
     unfit_running e =
         let b = both (fit_registers c.frozen) (ltb c.sub 2097152) in
         unfit_answer c n (ap (λ (a : Bool). both a b) (unstepped_only c.running k e))
 
-    module _ {r : Registers} (s : forward_of c.running k ≡ stepped.To r) where
+    module _ {r : Registers} (s : forward_of c.running k ≡ Some r) where
       fit : fit_clock c ≡ true
       unfolding fit_clock
       fit = both_true (stepped_only c.running r k s).0 f
@@ -106,11 +105,11 @@ module _ (c : Clock) (n : ℕ) where
       time : (ticks n c).time ≡ c.time + k
       time = ap (λ (x : Clock). x.time) (gone_ticks c n g)
 
-      pub late_by : 18446744073709551615 - c.time < k → Refuse Late ≡ advance_of c n
+      pub late_by : 18446744073709551615 - c.time < k → Err Late ≡ advance_of c n
       late_by m = late_answer c n fit (omega (arith, time))
 
       pub advanced_by : k ≤ 18446744073709551615 - c.time → c.time < 18446744073709551616
-          → To (record { running = r; sub = x; time = c.time + k; latched = c.latched; frozen = c.frozen }) ≡ advance_of c n
+          → Ok (record { running = r; sub = x; time = c.time + k; latched = c.latched; frozen = c.frozen }) ≡ advance_of c n
       advanced_by m t =
-          rw (stepped_only c.running r k s).1 (ap To (sym (gone_ticks c n g)))
+          rw (stepped_only c.running r k s).1 (ap Ok (sym (gone_ticks c n g)))
           ∙ taken_answer c n fit (omega (arith, time))

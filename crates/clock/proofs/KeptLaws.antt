@@ -1,4 +1,5 @@
 -- What the operations keep: the widths, and in an accepted advance everything but the running clock.
+use Rattle.std.specs.Prelude.{Ok, Err, Some, None}
 use mathlib.Core.Bool.{Bool, true, false, not}
 use mathlib.Core.Path.{◌≡◌, refl, sym, ap, ◌∙◌, subst}
 use Prim.Native.Nat.{ℕ, ◌%◌, ◌<◌, ◌≤◌}
@@ -15,8 +16,6 @@ use Rattle.clock.specs.Ticking.{ticks, advance_of}
 use Rattle.clock.specs.Access.{start_at, written_clock, written_of, latched_of}
 use Rattle.clock.specs.declared.Clock.{Clock}
 use Rattle.clock.specs.declared.AdvanceRefusal.TheVariants.{Unfit, Late}
-use Rattle.clock.specs.declared.Advanced.TheVariants.{To, Refuse}
-use Rattle.clock.specs.declared.Written.TheVariants as written
 use Rattle.clock.proofs.FitLaws.{FitClock, fit_parts, parts_fit}
 use Rattle.clock.proofs.TickLaws.{after, halted_ticks, moving_ticks, ticks_fit}
 
@@ -27,12 +26,12 @@ pub record Taken (c d : Clock) (n : ℕ) : Type 0 where
   pub room : (ticks n c).time ≤ 18446744073709551615
   pub is : d ≡ ticks n c
 
-pub advance_taken : (c d : Clock) (n : ℕ) → advance_of c n ≡ To d → Taken c d n
+pub advance_taken : (c d : Clock) (n : ℕ) → advance_of c n ≡ Ok d → Taken c d n
 unfolding advance_of
 advance_taken c d n e = go (not (fit_clock c)) (ltb 18446744073709551615 (ticks n c).time) refl refl e
   where
     go : (t u : Bool) → not (fit_clock c) ≡ t → ltb 18446744073709551615 (ticks n c).time ≡ u
-        → pick t (Refuse Unfit) (pick u (Refuse Late) (To (ticks n c))) ≡ To d → Taken c d n
+        → pick t (Err Unfit) (pick u (Err Late) (Ok (ticks n c))) ≡ Ok d → Taken c d n
     go true u p q r = let z : ◌≡◌ {A = ℕ} 0 1 = cc in absurd (omega arith)
     go false true p q r = let z : ◌≡◌ {A = ℕ} 0 1 = cc in absurd (omega arith)
     go false false p q r =
@@ -53,10 +52,10 @@ ticks_copy n c = go c.running.halt refl
 
 -- ---- a fit clock stays fit
 
-pub advance_fit : (c d : Clock) (n : ℕ) → advance_of c n ≡ To d → fit_clock d ≡ true
+pub advance_fit : (c d : Clock) (n : ℕ) → advance_of c n ≡ Ok d → fit_clock d ≡ true
 advance_fit c d n e = let t = advance_taken c d n e in ap fit_clock t.is ∙ ticks_fit n c t.fit
 
-pub write_fit : (c d : Clock) (n b : ℕ) → fit_clock c ≡ true → b < 256 → written_of c n b ≡ written.To d → fit_clock d ≡ true
+pub write_fit : (c d : Clock) (n b : ℕ) → fit_clock c ≡ true → b < 256 → written_of c n b ≡ Some d → fit_clock d ≡ true
 unfolding written_of
 write_fit c d n b f l e = go (ltb n 5) e
   where
@@ -73,7 +72,7 @@ write_fit c d n b f l e = go (ltb n 5) e
           sub = pick_has (λ (x : ℕ). x < 2097152) (eqb n 0) (omega arith) p.sub;
         }
 
-    go : (t : Bool) → pick t (written.To (written_clock c n b)) written.NoRegister ≡ written.To d → fit_clock d ≡ true
+    go : (t : Bool) → pick t (Some (written_clock c n b)) None ≡ Some d → fit_clock d ≡ true
     go true q = let i : written_clock c n b ≡ d = cc in ap fit_clock (sym i) ∙ parts_fit (written_clock c n b) good
     go false q = let z : ◌≡◌ {A = ℕ} 0 1 = cc in absurd (omega arith)
 

@@ -1,13 +1,9 @@
 -- Reads, writes, the latch and the start of the clock (Clock 1, Clock 9 to 12).
-use Rattle.std.specs.Prelude.{false, ℕ, ◌%◌, eqb, ltb, get_or}
+use Rattle.std.specs.Prelude.{false, ℕ, ◌%◌, eqb, ltb, get_or, Some, None, Option}
 use Rattle.facts.specs.Choice.{pick}
 use Rattle.clock_registers.specs.Access.{zeros, readings, writings}
 use Rattle.clock_registers.specs.declared.Registers.{Registers}
 use Rattle.clock.specs.declared.Clock.{Clock}
-use Rattle.clock.specs.declared.Shown.{Shown}
-use Rattle.clock.specs.declared.Shown.TheVariants as shown
-use Rattle.clock.specs.declared.Written.{Written}
-use Rattle.clock.specs.declared.Written.TheVariants as written
 
 -- Clock 1: "At the start all of it is 0 but the time"; Bus 3: "its clock's time is the wall time that the mounting is given"
 abbrev pub start_at : ℕ → Clock
@@ -21,8 +17,8 @@ sub_after n sub = pick (eqb n 0) 0 sub
 abbrev pub visible : Clock → Registers
 visible c = pick c.latched c.frozen c.running
 
-unfoldable pub shown_of : Clock → ℕ → Shown
-shown_of c n = pick (ltb n 5) (shown.Byte (get_or (readings (visible c)) n 0)) shown.NoRegister
+unfoldable pub shown_of : Clock → ℕ → Option ℕ
+shown_of c n = pick (ltb n 5) (Some (get_or (readings (visible c)) n 0)) None
 
 -- Clock 12: "While the clock is frozen .. a write goes to the running register and to the copy; else both are of the running
 -- register alone"
@@ -36,8 +32,8 @@ written_clock c n b =
       frozen = pick c.latched (get_or (writings c.frozen b) n c.frozen) c.frozen;
     }
 
-unfoldable pub written_of : Clock → ℕ → ℕ → Written
-written_of c n b = pick (ltb n 5) (written.To (written_clock c n b)) written.NoRegister
+unfoldable pub written_of : Clock → ℕ → ℕ → Option Clock
+written_of c n b = pick (ltb n 5) (Some (written_clock c n b)) None
 
 -- Clock 10: "with bit 0 set freezes: the copy becomes what the running registers are then, unless the clock is frozen already.
 -- One with bit 0 clear unfreezes"; Clock 11: "keeps what it has when the clock is unfrozen"

@@ -1,5 +1,5 @@
 -- One tick of the clock, n ticks, and what an advance answers (Clock 2, Clock 5).
-use Rattle.std.specs.Prelude.{Bool, not, [], ◌∷◌, ◌≡◌, ℕ, zero, suc, ◌+◌, ◌<◌, ltb}
+use Rattle.std.specs.Prelude.{Bool, not, [], ◌∷◌, ◌≡◌, ℕ, zero, suc, ◌+◌, ◌<◌, ltb, Ok, Err, Result}
 use Rattle.facts.specs.Choice.{pick, bit}
 use Rattle.facts.specs.Refusals.{no, first_no}
 use Rattle.facts.specs.Counter.{Counter, plain, carries, step, steps, count}
@@ -8,8 +8,6 @@ use Rattle.clock.specs.Fit.{fit_clock}
 use Rattle.clock.specs.declared.Clock.{Clock}
 use Rattle.clock.specs.declared.AdvanceRefusal.{AdvanceRefusal}
 use Rattle.clock.specs.declared.AdvanceRefusal.TheVariants.{Unfit, Late}
-use Rattle.clock.specs.declared.Advanced.{Advanced}
-use Rattle.clock.specs.declared.Advanced.TheVariants.{To, Refuse}
 
 -- Clock 2: "the sub-second counts up by 1; reaching 2,097,152 it starts again at 0"
 abbrev pub clocks : Counter
@@ -51,5 +49,5 @@ abbrev pub late : Clock → ℕ → Bool
 late c n = ltb 18446744073709551615 (ticks n c).time
 
 -- Order 5: "An advance asks 13, then 17"; Clock 5: "An advance by n clocks .. is n ticks in one call"
-unfoldable pub advance_of : Clock → ℕ → Advanced
-advance_of c n = first_no Refuse (no (not (fit_clock c)) Unfit ∷ no (late c n) Late ∷ []) (To (ticks n c))
+unfoldable pub advance_of : Clock → ℕ → Result Clock AdvanceRefusal
+advance_of c n = first_no Err (no (not (fit_clock c)) Unfit ∷ no (late c n) Late ∷ []) (Ok (ticks n c))

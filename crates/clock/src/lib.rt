@@ -8,7 +8,7 @@ ghost use Rattle.clock.specs.Fit.{fit_clock};
 ghost use Rattle.clock.specs.Ticking.{advance_of, number_of, Gone};
 ghost use Rattle.clock.specs.Access.{start_at, sub_after, shown_of, written_of, latched_of};
 
-use clock_registers::{Registers, Stepped};
+use clock_registers::Registers;
 use facts::{Counted, both, from_below};
 
 // The number of mapper clocks in a second.
@@ -26,31 +26,12 @@ pub struct Clock {
 }
 
 // Why a clock is not advanced.
-#[derive(Drop)]
+#[derive(Clone, Copy, Debug, PartialEq, Eq)]
 pub enum AdvanceRefusal {
     // A register or the sub-second is beyond its width.
     Unfit,
     // The time would pass 2^64 - 1 seconds.
     Late,
-}
-
-#[derive(Drop)]
-pub enum Advanced {
-    To(Clock),
-    Refuse(AdvanceRefusal),
-}
-
-// What a register shows, or that there is none of this number.
-#[derive(Drop)]
-pub enum Shown {
-    Byte(u8),
-    NoRegister,
-}
-
-#[derive(Drop)]
-pub enum Written {
-    To(Clock),
-    NoRegister,
 }
 
 impl AdvanceRefusal {
@@ -114,29 +95,29 @@ impl Clock {
     }
 
     // One mapper clock on.
-    pub fn tick(self) -> Advanced
+    pub fn tick(self) -> Result<Clock, AdvanceRefusal>
         ensures { result ≡ advance_of self 1 }
     {
         self.advance(1)
     }
 
     // n mapper clocks on. The step of the registers is the test of their widths.
-    pub fn advance(self, n: u64) -> Advanced
+    pub fn advance(self, n: u64) -> Result<Clock, AdvanceRefusal>
         ensures { result ≡ advance_of self n }
     {
         let was = self.running;
         let frozen = self.frozen;
         if !both(frozen.fit(), self.sub < ONE_SECOND_MAPPER_CLOCKS) {
-            return Advanced::Refuse(AdvanceRefusal::Unfit);
+            return Err(AdvanceRefusal::Unfit);
         }
         let gone = elapsed(was.halt, self.sub, n);
-        let Stepped::To(running) = was.forward(gone.carried) else {
-            return Advanced::Refuse(AdvanceRefusal::Unfit);
+        let Some(running) = was.forward(gone.carried) else {
+            return Err(AdvanceRefusal::Unfit);
         };
         if LAST_TIME - self.time < gone.carried {
-            return Advanced::Refuse(AdvanceRefusal::Late);
+            return Err(AdvanceRefusal::Late);
         }
-        Advanced::To(Clock {
+        Ok(Clock {
             running,
             sub: gone.value as u32,
             time: self.time + gone.carried,
@@ -144,41 +125,39 @@ impl Clock {
         })
     }
 
-    // What register n shows: the frozen copy while frozen.
-    pub fn read(self, n: u8) -> Shown
+    // What register n shows, where there is one: the frozen copy while frozen.
+    pub fn read(self, n: u8) -> Option<u8>
         ensures { result ≡ shown_of self n }
     {
         if 4 < n {
-            return Shown::NoRegister;
+            None
+        } else if self.latched {
+            Some(self.frozen.get(n))
+        } else {
+            Some(self.running.get(n))
         }
-        if self.latched {
-            let frozen = self.frozen;
-            return Shown::Byte(frozen.get(n));
-        }
-        let running = self.running;
-        Shown::Byte(running.get(n))
     }
 
-    // The byte b written to register n: to the running one, and while frozen to the copy too.
-    pub fn write(self, n: u8, b: u8) -> Written
+    // The byte b written to register n, where there is one: to the running one, and while frozen to the copy too.
+    pub fn write(self, n: u8, b: u8) -> Option<Clock>
         ensures { result ≡ written_of self n b }
     {
         if 4 < n {
-            return Written::NoRegister;
+            return None;
         }
         let was = self.running;
         let running = was.set(n, b);
         let sub = sub_after(n, self.sub);
         if self.latched {
             let copy = self.frozen;
-            return Written::To(Clock {
+            return Some(Clock {
                 running,
                 sub,
                 frozen: copy.set(n, b),
                 ..self
             });
         }
-        Written::To(Clock {
+        Some(Clock {
             running,
             sub,
             ..self

@@ -1,4 +1,5 @@
 -- The block's bytes, and the answer of a waking by its tests.
+use Rattle.std.specs.Prelude.{Ok, Err, Some, None, Result, Option}
 use Rattle.std.proofs.Common.{◌≡◌, ℕ, ◌+◌, ◌-◌, ◌%◌, ◌^◌, ◌≤◌, Bool, true, false, not, List, [], ◌∷◌, length, sym, refl, ap, ◌∙◌, arith, ltb-false}
 use Rattle.facts.specs.Refusals.{no, first_no}
 use Rattle.bytes_le.specs.Little.{bytes_of, put_at}
@@ -7,8 +8,6 @@ use Rattle.clock_registers.specs.Access.{zeros}
 use Rattle.clock_registers.specs.Fit.{fit_registers}
 use Rattle.clock_registers.specs.Seconds.{forward_of, seconds_on}
 use Rattle.clock_registers.specs.declared.Registers.{Registers}
-use Rattle.clock_registers.specs.declared.Stepped as declared
-use Rattle.clock_registers.specs.declared.Stepped.TheVariants as stepped
 use Rattle.clock_registers.proofs.SecondLaws.{stepped_only, unstepped_only}
 use Rattle.clock.specs.Access.{start_at}
 use Rattle.clock.specs.declared.Clock.{Clock}
@@ -16,8 +15,7 @@ use Rattle.clock_block.specs.Layout.{block, block_bytes, put_block}
 use Rattle.clock_block.specs.Waking.{taken_of, time_of, late, woken_of, wake_of, block_noes}
 use Rattle.clock_block.specs.declared.Block.{Block}
 use Rattle.clock_block.specs.declared.BlockRefusal.TheVariants.{Beyond, Late}
-use Rattle.clock_block.specs.declared.Woken.{Woken}
-use Rattle.clock_block.specs.declared.Woken.TheVariants.{To, Refuse}
+use Rattle.clock_block.specs.declared.BlockRefusal.{BlockRefusal}
 
 -- ---- the bytes
 
@@ -46,35 +44,35 @@ block_of_lem p q r x y z = cc
 
 module _ (b : Block) (wall : ℕ) where
   -- the answer by the two tests
-  abbrev by : Bool → Bool → Woken
-  by f l = first_no Refuse (no (not f) Beyond ∷ no l Late ∷ []) (To (woken_of b wall))
+  abbrev by : Bool → Bool → Result Clock BlockRefusal
+  by f l = first_no Err (no (not f) Beyond ∷ no l Late ∷ []) (Ok (woken_of b wall))
 
   split : {f l : Bool} → fit_registers (taken_of b) ≡ f → late b wall ≡ l → by f l ≡ wake_of b wall
   unfolding wake_of block_noes
   split {f} p q = ap (by f) (sym q) ∙ ap (λ (g : Bool). by g (late b wall)) (sym p)
 
   -- what the step answers, of the registers taken
-  module _ (n : ℕ) {r : Registers} {x : declared.Stepped} (p : r ≡ taken_of b) (e : x ≡ forward_of r n) where
-    pub woken_beyond : x ≡ stepped.Unfit → Refuse Beyond ≡ wake_of b wall
+  module _ (n : ℕ) {r : Registers} {x : Option Registers} (p : r ≡ taken_of b) (e : x ≡ forward_of r n) where
+    pub woken_beyond : x ≡ None → Err Beyond ≡ wake_of b wall
     woken_beyond g = split (ap fit_registers (sym p) ∙ unstepped_only r n (sym e ∙ g)) refl
 
-    taken_fit : {q : Registers} → x ≡ stepped.To q → fit_registers (taken_of b) ≡ true
+    taken_fit : {q : Registers} → x ≡ Some q → fit_registers (taken_of b) ≡ true
     taken_fit {q} g = ap fit_registers (sym p) ∙ (stepped_only r q n (sym e ∙ g)).0
 
-    pub woken_late : {q : Registers} {t : Bool} → x ≡ stepped.To q → t ≡ late b wall → t ≡ true → Refuse Late ≡ wake_of b wall
+    pub woken_late : {q : Registers} {t : Bool} → x ≡ Some q → t ≡ late b wall → t ≡ true → Err Late ≡ wake_of b wall
     woken_late g l k = split (taken_fit g) (sym l ∙ k)
 
-    pub woken_to : {q : Registers} {t : Bool} {time : ℕ} {c : Clock} → x ≡ stepped.To q → t ≡ late b wall → t ≡ false
+    pub woken_to : {q : Registers} {t : Bool} {time : ℕ} {c : Clock} → x ≡ Some q → t ≡ late b wall → t ≡ false
         → time ≡ (wall + b.offset) % 2 ^ 64 → n ≡ time - b.time → c ≡ start_at time
-        → To (record { running = q; sub = c.sub; time = c.time; latched = c.latched; frozen = c.frozen }) ≡ wake_of b wall
+        → Ok (record { running = q; sub = c.sub; time = c.time; latched = c.latched; frozen = c.frozen }) ≡ wake_of b wall
     unfolding woken_of
     woken_to {q} {time = time} g l k w d f =
         let m = ltb-false 18446744073709551615 (time_of b wall) (sym l ∙ k) in
         let u : time ≡ time_of b wall = w ∙ omega arith in
-        ap (λ (z : Clock). To
+        ap (λ (z : Clock). Ok
         (record { running = q; sub = z.sub; time = z.time; latched = z.latched; frozen = z.frozen })) f
-        ∙ ap (λ (z : Registers). To (record { running = z; sub = 0; time = time; latched = false; frozen = zeros }))
+        ∙ ap (λ (z : Registers). Ok (record { running = z; sub = 0; time = time; latched = false; frozen = zeros }))
         ((stepped_only r q n (sym e ∙ g)).1 ∙ ap (seconds_on n) p ∙ ap (λ (i : ℕ). seconds_on i (taken_of b)) d)
-        ∙ ap (λ (i : ℕ). To
+        ∙ ap (λ (i : ℕ). Ok
         (record { running = seconds_on (i - b.time) (taken_of b); sub = 0; time = i; latched = false; frozen = zeros })) u
         ∙ split (taken_fit g) (sym l ∙ k)

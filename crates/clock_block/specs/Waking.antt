@@ -1,5 +1,5 @@
 -- What is kept of a clock, and the clock that comes back (Save 2, Save 3, Save 6 to 8).
-use Rattle.std.specs.Prelude.{ℕ, ◌+◌, ◌-◌, Bool, false, not, List, [], ◌∷◌, nat_lt}
+use Rattle.std.specs.Prelude.{ℕ, ◌+◌, ◌-◌, Bool, false, not, List, [], ◌∷◌, nat_lt, Ok, Err, Result}
 use Rattle.facts.specs.Refusals.{No, no, first_no}
 use Rattle.clock_registers.specs.Access.{zeros, registers}
 use Rattle.clock_registers.specs.Fit.{fit_registers}
@@ -10,8 +10,6 @@ use Rattle.clock_block.specs.Layout.{block}
 use Rattle.clock_block.specs.declared.Block.{Block}
 use Rattle.clock_block.specs.declared.BlockRefusal.{BlockRefusal}
 use Rattle.clock_block.specs.declared.BlockRefusal.TheVariants.{Beyond, Late}
-use Rattle.clock_block.specs.declared.Woken.{Woken}
-use Rattle.clock_block.specs.declared.Woken.TheVariants.{To, Refuse}
 
 abbrev pub number_of : BlockRefusal → ℕ
 number_of Beyond = 20
@@ -55,5 +53,5 @@ late b wall = nat_lt 18446744073709551615 (time_of b wall)
 unfoldable pub block_noes : Block → ℕ → List (No BlockRefusal)
 block_noes b wall = no (beyond b) Beyond ∷ no (late b wall) Late ∷ []
 
-unfoldable pub wake_of : Block → ℕ → Woken
-wake_of b wall = first_no Refuse (block_noes b wall) (To (woken_of b wall))
+unfoldable pub wake_of : Block → ℕ → Result Clock BlockRefusal
+wake_of b wall = first_no Err (block_noes b wall) (Ok (woken_of b wall))

@@ -6,8 +6,9 @@ ghost use Rattle.std.specs.Prelude.{◌≡◌, ◌+◌, ◌≤◌, length, nat_l
 ghost use Rattle.clock_block.specs.Layout.{block_in, put_block};
 ghost use Rattle.clock_block.specs.Waking.{number_of, block_of, taken_of, wake_of};
 
+use bytes_le::Field;
 use clock::Clock;
-use clock_registers::{Registers, Stepped};
+use clock_registers::Registers;
 use facts::saturating_sub;
 
 // Bytes of a block.
@@ -28,18 +29,12 @@ pub struct Block {
 }
 
 // Why a block wakes no clock, in the order of the tests.
-#[derive(Drop)]
+#[derive(Clone, Copy, Debug, PartialEq, Eq)]
 pub enum BlockRefusal {
     // A register is beyond its width.
     Beyond,
     // The time would pass 2^64 - 1 seconds.
     Late,
-}
-
-#[derive(Drop)]
-pub enum Woken {
-    To(Clock),
-    Refuse(BlockRefusal),
 }
 
 impl BlockRefusal {
@@ -82,12 +77,12 @@ impl Block {
         ensures { result ≡ block_in bytes.now }
     {
         Block {
-            second: bytes_le::read_u8(bytes, 0),
-            minute: bytes_le::read_u8(bytes, 1),
-            hour: bytes_le::read_u8(bytes, 2),
-            day: bytes_le::read_u16(bytes, 3),
-            time: bytes_le::read_u64(bytes, 5),
-            offset: bytes_le::read_u64(bytes, 13),
+            second: u8::read(bytes, 0),
+            minute: u8::read(bytes, 1),
+            hour: u8::read(bytes, 2),
+            day: u16::read(bytes, 3),
+            time: u64::read(bytes, 5),
+            offset: u64::read(bytes, 13),
         }
     }
 
@@ -96,12 +91,12 @@ impl Block {
         requires { 21 ≤ length room.old }
         ensures { room.new ≡ put_block self room.old }
     {
-        bytes_le::write_u8(room, 0, self.second);
-        bytes_le::write_u8(room, 1, self.minute);
-        bytes_le::write_u8(room, 2, self.hour);
-        bytes_le::write_u16(room, 3, self.day);
-        bytes_le::write_u64(room, 5, self.time);
-        bytes_le::write_u64(room, 13, self.offset);
+        u8::write(room, 0, self.second);
+        u8::write(room, 1, self.minute);
+        u8::write(room, 2, self.hour);
+        u16::write(room, 3, self.day);
+        u64::write(room, 5, self.time);
+        u64::write(room, 13, self.offset);
     }
 
     // The registers as they are taken from a block: neither halted nor carried.
@@ -120,18 +115,18 @@ impl Block {
 
     // The clock at this wall time, caught up from the saved time in one step. That step is the test of the registers' widths, so
     // a time that is too late is told only behind it.
-    pub fn wake(self, wall: u64) -> Woken
+    pub fn wake(self, wall: u64) -> Result<Clock, BlockRefusal>
         ensures { result ≡ wake_of self wall }
     {
         let time = std::num::wrapping_add_u64(wall, self.offset);
         let taken = self.registers();
-        let Stepped::To(running) = taken.forward(saturating_sub(time, self.time)) else {
-            return Woken::Refuse(BlockRefusal::Beyond);
+        let Some(running) = taken.forward(saturating_sub(time, self.time)) else {
+            return Err(BlockRefusal::Beyond);
         };
         if passes(wall, self.offset) {
-            return Woken::Refuse(BlockRefusal::Late);
+            return Err(BlockRefusal::Late);
         }
         let fresh = Clock::new(time);
-        Woken::To(Clock { running, ..fresh })
+        Ok(Clock { running, ..fresh })
     }
 }

@@ -1,4 +1,5 @@
 -- Registers that fit stay fit.
+use Rattle.std.specs.Prelude.{Some}
 use mathlib.Core.Bool.{true}
 use mathlib.Core.Path.{◌≡◌, ap, ◌∙◌}
 use Prim.Native.Nat.{ℕ, zero, suc, ◌<◌}
@@ -8,11 +9,10 @@ use Rattle.clock_registers.specs.Fit.{fit_registers, Fit}
 use Rattle.clock_registers.specs.Seconds.{forward_of}
 use Rattle.clock_registers.specs.Access.{writings}
 use Rattle.clock_registers.specs.declared.Registers.{Registers}
-use Rattle.clock_registers.specs.declared.Stepped.TheVariants.{To}
 use Rattle.clock_registers.proofs.FitLaws.{fit_bounds, bounds_fit}
 use Rattle.clock_registers.proofs.SecondLaws.{seconds_fit, stepped_only}
 
-pub forward_fit : (r q : Registers) (n : ℕ) → forward_of r n ≡ To q → fit_registers q ≡ true
+pub forward_fit : (r q : Registers) (n : ℕ) → forward_of r n ≡ Some q → fit_registers q ≡ true
 forward_fit r q n e = let s = stepped_only r q n e in ap fit_registers s.1 ∙ seconds_fit n r s.0
 
 -- each of the five registers as written

@@ -1,4 +1,5 @@
 -- n seconds, place by place: each place takes as many steps as the place before it carries.
+use Rattle.std.specs.Prelude.{Some, None}
 use mathlib.Core.Bool.{Bool, true, false}
 use mathlib.Core.Path.{◌≡◌, refl, sym, ap, ◌∙◌, subst}
 use Prim.Native.Nat.{ℕ, zero, suc, ◌+◌, ◌/◌, ◌%◌}
@@ -24,7 +25,6 @@ use Rattle.clock_registers.specs.Fit.{fit_registers, Fit}
 use Rattle.clock_registers.specs.Seconds.{sixty, hours, days, second_on, seconds_on, forward_of}
 use Rattle.clock_registers.specs.Access.{registers}
 use Rattle.clock_registers.specs.declared.Registers.{Registers}
-use Rattle.clock_registers.specs.declared.Stepped.TheVariants.{To, Unfit}
 use Rattle.clock_registers.proofs.FitLaws.{fit_bounds, bounds_fit}
 
 -- ---- n seconds: how often the minute, the hour, the day and the carry move
@@ -98,28 +98,28 @@ seconds_fit n r e =
 -- ---- the answers of a step
 
 module _ (r : Registers) (n : ℕ) where
-  pub stepped_answer : {q : Registers} → fit_registers r ≡ true → q ≡ seconds_on n r → To q ≡ forward_of r n
+  pub stepped_answer : {q : Registers} → fit_registers r ≡ true → q ≡ seconds_on n r → Some q ≡ forward_of r n
   unfolding forward_of
   stepped_answer f e = rw (f, e)
 
-  pub unstepped_answer : fit_registers r ≡ false → Unfit ≡ forward_of r n
+  pub unstepped_answer : fit_registers r ≡ false → None ≡ forward_of r n
   unfolding forward_of
   unstepped_answer f = rw f
 
 -- and taken apart
-pub stepped_only : (r q : Registers) (n : ℕ) → forward_of r n ≡ To q → (fit_registers r ≡ true) × (q ≡ seconds_on n r)
+pub stepped_only : (r q : Registers) (n : ℕ) → forward_of r n ≡ Some q → (fit_registers r ≡ true) × (q ≡ seconds_on n r)
 unfolding forward_of
 stepped_only r q n e = go (fit_registers r) refl e
   where
-    go : (b : Bool) → fit_registers r ≡ b → pick b (To (seconds_on n r)) Unfit ≡ To q
+    go : (b : Bool) → fit_registers r ≡ b → pick b (Some (seconds_on n r)) None ≡ Some q
         → (fit_registers r ≡ true) × (q ≡ seconds_on n r)
     go true f p = (f, cc)
     go false f p = let z : ◌≡◌ {A = ℕ} 0 1 = cc in absurd (omega arith)
 
-pub unstepped_only : (r : Registers) (n : ℕ) → forward_of r n ≡ Unfit → fit_registers r ≡ false
+pub unstepped_only : (r : Registers) (n : ℕ) → forward_of r n ≡ None → fit_registers r ≡ false
 unfolding forward_of
 unstepped_only r n e = go (fit_registers r) refl e
   where
-    go : (b : Bool) → fit_registers r ≡ b → pick b (To (seconds_on n r)) Unfit ≡ Unfit → fit_registers r ≡ false
+    go : (b : Bool) → fit_registers r ≡ b → pick b (Some (seconds_on n r)) None ≡ None → fit_registers r ≡ false
     go true f p = let z : ◌≡◌ {A = ℕ} 0 1 = cc in absurd (omega arith)
     go false f p = f

@@ -1,11 +1,9 @@
 -- One second of the registers, n seconds, and what stepping answers (Clock 3, Clock 4).
-use Rattle.std.specs.Prelude.{Bool, ℕ, zero, suc}
+use Rattle.std.specs.Prelude.{Bool, ℕ, zero, suc, Some, None, Option}
 use Rattle.facts.specs.Choice.{pick, both, either}
 use Rattle.facts.specs.Counter.{Counter, cyclic, plain, carries, step, step_if}
 use Rattle.clock_registers.specs.Fit.{fit_registers}
 use Rattle.clock_registers.specs.declared.Registers.{Registers}
-use Rattle.clock_registers.specs.declared.Stepped.{Stepped}
-use Rattle.clock_registers.specs.declared.Stepped.TheVariants.{To, Unfit}
 
 -- Clock 3: "the second counts up by 1, modulo 64. If that makes it 60, it goes to 0 and the minute steps, by the same rule"
 abbrev pub sixty : Counter
@@ -50,5 +48,5 @@ seconds_on zero r = r
 seconds_on (suc n) r = second_on (seconds_on n r)
 
 -- Save 8: "the registers step, by Clock 3, as many seconds", where they are fit by Fit 9
-unfoldable pub forward_of : Registers → ℕ → Stepped
-forward_of r n = pick (fit_registers r) (To (seconds_on n r)) Unfit
+unfoldable pub forward_of : Registers → ℕ → Option Registers
+forward_of r n = pick (fit_registers r) (Some (seconds_on n r)) None

@@ -20,13 +20,6 @@ pub struct Registers {
     pub carry: bool,
 }
 
-// Registers some seconds on, or registers beyond their widths.
-#[derive(Drop)]
-pub enum Stepped {
-    To(Registers),
-    Unfit,
-}
-
 // n steps of a counter of `width` values with a stop. From the stop on it runs to the last value and then from 0.
 fn run(width: u64, stop: u64, v: u64, n: u64) -> Counted
     requires { (0 < stop) × (stop < width) × (v < width) }
@@ -89,14 +82,14 @@ impl Registers {
         }
     }
 
-    // n seconds on, whatever the halt says: the step of every catch-up.
-    pub fn forward(self, n: u64) -> Stepped
+    // n seconds on, whatever the halt says: the step of every catch-up. Registers beyond their widths take none.
+    pub fn forward(self, n: u64) -> Option<Registers>
         ensures { result ≡ forward_of self n }
     {
         if self.fit() {
-            return Stepped::To(self.seconds_on(n));
+            return Some(self.seconds_on(n));
         }
-        Stepped::Unfit
+        None
     }
 
     // What the bus reads at register n, and 0 where there is none.

@@ -4,8 +4,8 @@
 // take years or the answer is a refusal: there a comment says why it is right.
 #![tactic(auto)]
 
-use clock::{Advanced, Clock, Shown, Written};
-use clock_registers::{Registers, Stepped};
+use clock::{AdvanceRefusal, Clock};
+use clock_registers::Registers;
 use std::io;
 
 const LAST: u64 = 0xFFFF_FFFF_FFFF_FFFF;
@@ -47,13 +47,13 @@ fn show_line(rt: &impl Print, c: Clock) -> io::Result<()> {
 }
 
 // What the answer is, and the clock for what follows.
-fn answered(rt: &impl Print, a: Advanced, c: Clock) -> io::Result<Clock> {
+fn answered(rt: &impl Print, a: Result<Clock, AdvanceRefusal>, c: Clock) -> io::Result<Clock> {
     match a {
-        Advanced::To(d) => {
+        Ok(d) => {
             show(rt, d)?;
             Ok(d)
         }
-        Advanced::Refuse(why) => {
+        Err(why) => {
             spaced(rt, b'N', why.number() as u64)?;
             Ok(c)
         }
@@ -206,8 +206,8 @@ fn most_clocks(rt: &impl Print) -> io::Result<()> {
 
 fn show_read(rt: &impl Print, c: Clock, n: u8) -> io::Result<()> {
     match c.read(n) {
-        Shown::Byte(b) => field(rt, b' ', b as u64),
-        Shown::NoRegister => byte(rt, b'-'),
+        Some(b) => field(rt, b' ', b as u64),
+        None => byte(rt, b'-'),
     }
 }
 
@@ -224,8 +224,8 @@ fn show_reads(rt: &impl Print, c: Clock) -> io::Result<()> {
 
 fn written(rt: &impl Print, c: Clock, n: u8, b: u8) -> io::Result<Clock> {
     match c.write(n, b) {
-        Written::To(d) => Ok(d),
-        Written::NoRegister => {
+        Some(d) => Ok(d),
+        None => {
             ending(rt, b'-')?;
             Ok(c)
         }
@@ -278,8 +278,8 @@ fn forward(rt: &impl Print, r: Registers, n: u64) -> io::Result<()> {
     show_registers(rt, r)?;
     spaced(rt, b',', n)?;
     match r.forward(n) {
-        Stepped::To(q) => show_registers(rt, q)?,
-        Stepped::Unfit => byte(rt, b'-')?,
+        Some(q) => show_registers(rt, q)?,
+        None => byte(rt, b'-')?,
     }
     ending(rt, b'!')
 }

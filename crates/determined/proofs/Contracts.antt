@@ -8,14 +8,6 @@ use Rattle.banking.proofs.or_one.Reads as banking_or_one
 use Rattle.banking.proofs.rom_place.Reads as banking_rom_place
 use Rattle.banking.proofs.ram_place.Reads as banking_ram_place
 use Rattle.banking.proofs.banked_place.Reads as banking_banked_place
-use Rattle.bytes_le.proofs.read_u8.Reads as bytes_le_read_u8
-use Rattle.bytes_le.proofs.read_u16.Reads as bytes_le_read_u16
-use Rattle.bytes_le.proofs.read_u32.Reads as bytes_le_read_u32
-use Rattle.bytes_le.proofs.read_u64.Reads as bytes_le_read_u64
-use Rattle.bytes_le.proofs.write_u8.Reads as bytes_le_write_u8
-use Rattle.bytes_le.proofs.write_u16.Reads as bytes_le_write_u16
-use Rattle.bytes_le.proofs.write_u32.Reads as bytes_le_write_u32
-use Rattle.bytes_le.proofs.write_u64.Reads as bytes_le_write_u64
 use Rattle.clock_registers.proofs.Registers.new.Reads as clock_registers_registers_new
 use Rattle.clock_registers.proofs.Registers.fit.Reads as clock_registers_registers_fit
 use Rattle.clock_registers.proofs.Registers.forward.Reads as clock_registers_registers_forward
@@ -129,14 +121,7 @@ use Rattle.mount.proofs.mount.Reads as mount_mount
 use Rattle.bus.proofs.read.Reads as bus_read
 use Rattle.bus.proofs.write.Reads as bus_write
 use Rattle.bus.proofs.advance.Reads as bus_advance
-use Rattle.states.proofs.kind_of.Reads as states_kind_of
 use Rattle.states.proofs.encode.Reads as states_encode
-use Rattle.states.proofs.put_none.Reads as states_put_none
-use Rattle.states.proofs.put_mbc1.Reads as states_put_mbc1
-use Rattle.states.proofs.put_mbc2.Reads as states_put_mbc2
-use Rattle.states.proofs.put_mbc3.Reads as states_put_mbc3
-use Rattle.states.proofs.put_mbc5.Reads as states_put_mbc5
-use Rattle.states.proofs.put.Reads as states_put
 use Rattle.states.proofs.are_flags.Reads as states_are_flags
 use Rattle.states.proofs.mbc1_in.Reads as states_mbc1_in
 use Rattle.states.proofs.mbc2_in.Reads as states_mbc2_in
@@ -199,30 +184,6 @@ banking_ram_place_answer k a x y s t p q = coincide p q
 
 pub banking_banked_place_answer : Answers banking_banked_place.Learnt
 banking_banked_place_answer k a x y s t p q = coincide p q
-
-pub bytes_le_read_u8_answer : Answers bytes_le_read_u8.Learnt
-bytes_le_read_u8_answer k a x y s t p q = coincide p q
-
-pub bytes_le_read_u16_answer : Answers bytes_le_read_u16.Learnt
-bytes_le_read_u16_answer k a x y s t p q = coincide p q
-
-pub bytes_le_read_u32_answer : Answers bytes_le_read_u32.Learnt
-bytes_le_read_u32_answer k a x y s t p q = coincide p q
-
-pub bytes_le_read_u64_answer : Answers bytes_le_read_u64.Learnt
-bytes_le_read_u64_answer k a x y s t p q = coincide p q
-
-pub bytes_le_write_u8_bytes : Leaves bytes_le_write_u8.Learnt (λ k s. s.0.now)
-bytes_le_write_u8_bytes k a x y s t p q = coincide p q
-
-pub bytes_le_write_u16_bytes : Leaves bytes_le_write_u16.Learnt (λ k s. s.0.now)
-bytes_le_write_u16_bytes k a x y s t p q = coincide p q
-
-pub bytes_le_write_u32_bytes : Leaves bytes_le_write_u32.Learnt (λ k s. s.0.now)
-bytes_le_write_u32_bytes k a x y s t p q = coincide p q
-
-pub bytes_le_write_u64_bytes : Leaves bytes_le_write_u64.Learnt (λ k s. s.0.now)
-bytes_le_write_u64_bytes k a x y s t p q = coincide p q
 
 pub clock_registers_registers_new_answer : Answers clock_registers_registers_new.Learnt
 clock_registers_registers_new_answer k a x y s t p q = coincide p q
@@ -572,29 +533,8 @@ bus_write_ram k a x y s t p q = coincide p.1 q.1
 pub bus_advance_answer : Answers bus_advance.Learnt
 bus_advance_answer k a x y s t p q = coincide p q
 
-pub states_kind_of_answer : Answers states_kind_of.Learnt
-states_kind_of_answer k a x y s t p q = coincide p q
-
 pub states_encode_s : Leaves states_encode.Learnt (λ k s. s.1.0.now)
 states_encode_s k a x y s t p q = coincide p q
-
-pub states_put_none_s : Leaves states_put_none.Learnt (λ k s. s.0.now)
-states_put_none_s k a x y s t p q = coincide p q
-
-pub states_put_mbc1_s : Leaves states_put_mbc1.Learnt (λ k s. s.0.now)
-states_put_mbc1_s k a x y s t p q = coincide p q
-
-pub states_put_mbc2_s : Leaves states_put_mbc2.Learnt (λ k s. s.0.now)
-states_put_mbc2_s k a x y s t p q = coincide p q
-
-pub states_put_mbc3_s : Leaves states_put_mbc3.Learnt (λ k s. s.0.now)
-states_put_mbc3_s k a x y s t p q = coincide p q
-
-pub states_put_mbc5_s : Leaves states_put_mbc5.Learnt (λ k s. s.0.now)
-states_put_mbc5_s k a x y s t p q = coincide p q
-
-pub states_put_s : Leaves states_put.Learnt (λ k s. s.0.now)
-states_put_s k a x y s t p q = coincide p q
 
 pub states_are_flags_answer : Answers states_are_flags.Learnt
 states_are_flags_answer k a x y s t p q = coincide p q
@@ -701,10 +641,10 @@ flat_windows_of_answer k a x y s t p q = coincide p q
 pub replay_program_write_answer : Answers replay_program_write.Learnt
 replay_program_write_answer k a x y s t p q = coincide p.0 q.0
 
-pub replay_program_write_room : Leaves replay_program_write.Learnt (λ k s. s.1.1.1.1.1.0.now)
+pub replay_program_write_room : Leaves replay_program_write.Learnt (λ k s. s.1.1.1.0.now)
 replay_program_write_room k a x y s t p q = coincide p.1.0 q.1.0
 
-pub replay_program_write_ram : Leaves replay_program_write.Learnt (λ k s. s.1.1.1.1.0.now)
+pub replay_program_write_ram : Leaves replay_program_write.Learnt (λ k s. s.1.1.0.now)
 replay_program_write_ram k a x y s t p q = coincide p.1.1 q.1.1
 
 pub player_imf_header_answer : Answers player_imf_header.Learnt

@@ -1,5 +1,6 @@
 -- What the contracts of a player's calls, of the clock, of the image, of a state's bytes, of the trace and of the replay say, as the
 -- definitions that the demands' theorems speak of: a contract that cites another definition, or none, is refused here.
+use Rattle.std.specs.Prelude.{option_copied}
 use lib.ListN.{length}
 use Rattle.utf8.specs.Utf8.{is_utf8}
 use Rattle.utf8.proofs.is_utf8.Reads as is-utf8
@@ -152,15 +153,15 @@ wake_says k a x s p = p
 pub next_record_says : Says next-record.Learnt (λ k a. trace.record_at a.0.now a.1.0)
 next_record_says k a x s p = p
 
--- `replay_program::write`, of an image and a trace, each whole or missing: how long the text is, the room with it, and the room for RAM
+-- `replay_program::write`, of an image and a trace, where each is there: how long the text is, the room with it, and the room for RAM
 pub program_says : Says program-write.Learnt
-    (λ k a. length (program.written_of a.0 a.1.0.now a.1.1.0 a.1.1.1.0.now))
+    (λ k a. length (program.written_of (option_copied a.0) (option_copied a.1.0)))
 program_says k a x s p = p.0
 
-pub program_says_room : SaysLeft program-write.Learnt (λ k s. s.1.1.1.1.1.0.now)
-    (λ k a. program.room_after a.0 a.1.0.now a.1.1.0 a.1.1.1.0.now a.1.1.1.1.1.0.now)
+pub program_says_room : SaysLeft program-write.Learnt (λ k s. s.1.1.1.0.now)
+    (λ k a. program.room_after (option_copied a.0) (option_copied a.1.0) a.1.1.1.0.now)
 program_says_room k a x s p = p.1.0
 
-pub program_says_ram : SaysLeft program-write.Learnt (λ k s. s.1.1.1.1.0.now)
-    (λ k a. program.ram_after a.0 a.1.0.now a.1.1.0 a.1.1.1.0.now a.1.1.1.1.0.now)
+pub program_says_ram : SaysLeft program-write.Learnt (λ k s. s.1.1.0.now)
+    (λ k a. program.ram_after (option_copied a.0) (option_copied a.1.0) a.1.1.0.now)
 program_says_ram k a x s p = p.1.1

@@ -1,13 +1,15 @@
 -- The digits of a number: how many they are, that they say it, and that decimal ones are `0` to `9`.
 use mathlib.Core.Bool.{Bool, true, false}
 use mathlib.Core.List.{List, [], ◌∷◌, ◌++◌}
+use mathlib.Core.Logic.{◌⊎◌, inl, inr}
 use mathlib.Core.Path.{◌≡◌, refl, sym, ap, ◌∙◌, subst}
-use Prim.Native.Nat.{ℕ, zero, suc, ◌+◌, ◌-◌, ◌*◌, ◌/◌, ◌%◌, ◌^◌, ◌<◌, ◌≤◌}
-use native.Mathlib.Nat.{div-lt_iff_lt-mul, div-add-mod', pow-suc, pow-zero}
+use Prim.Native.Nat.{ℕ, zero, suc, ◌+◌, ◌-◌, ◌*◌, ◌/◌, ◌%◌, ◌^◌, ◌<◌, ◌≤◌, max}
+use native.Mathlib.Nat.{div-lt_iff_lt-mul, div-add-mod', pow-suc, pow-zero, pow-le-pow_right}
 use native.Mathlib.Omega.{arith}
 use lib.Dec.{ltb}
 use lib.ListN.{length, length-append}
 use borrow.Author.Tests.{ltb-true, ltb-false, lt-ltb, le-ltb}
+use Rattle.std.proofs.lemmas.Bool.{cases_lt}
 use Rattle.facts.specs.Choice.{pick}
 use Rattle.facts.proofs.ChoiceLaws.{pick_cases}
 use Rattle.digits.specs.Digits.{
@@ -92,9 +94,6 @@ width_by (suc n) = go (ltb (suc n) 10)
 pub width_one : (n : ℕ) → n < 10 → width_of n ≡ 1
 width_one n h = width_by n ∙ ap (λ (t : Bool). pick t 1 (suc (width_of (n / 10)))) (lt-ltb n 10 h)
 
-pub width_more : (n : ℕ) → 10 ≤ n → width_of n ≡ suc (width_of (n / 10))
-width_more n h = width_by n ∙ ap (λ (t : Bool). pick t 1 (suc (width_of (n / 10)))) (le-ltb n 10 h)
-
 -- enough to hold the number
 holds_in : (f n : ℕ) → n ≤ f → n < 10 ^ width_in f n
 unfolding width_in
@@ -116,6 +115,26 @@ width_fewest (suc k) n h =
     subst (λ (w : ℕ). w ≤ suc (suc k)) (sym (width_by n))
     (pick_cases (λ (w : ℕ). w ≤ suc (suc k)) (ltb n 10) (λ e. omega arith)
     (λ e. omega (arith, width_fewest k (n / 10) (omega (arith, pow-suc 10 (suc k))))))
+
+-- 0 has as many digits as 1
+width_least : (n : ℕ) → width_of (max n 1) ≡ width_of n
+width_least zero = width_one 1 (omega arith) ∙ sym (width_one 0 (omega arith))
+width_least (suc n) = let e : max (suc n) 1 ≡ suc n = omega arith in ap width_of e
+
+-- the digits of a number between two powers of ten
+pub width_between : (k n : ℕ) {m : ℕ} → m ≡ max n 1 → 10 ^ k ≤ m → m < 10 * 10 ^ k → k + 1 ≡ width_of n
+width_between k n {m} e l h =
+    let w : width_of m ≡ width_of n = ap width_of e ∙ width_least n in
+    go (cases_lt k (width_of m)) w
+  where
+    most : width_of m ≤ suc k
+    most = width_fewest k m (omega (arith, pow-suc 10 k))
+
+    go : (k < width_of m) ⊎ (width_of m ≤ k) → width_of m ≡ width_of n → k + 1 ≡ width_of n
+    go (inl f) w = omega (arith, most)
+    go (inr f) w =
+        let p : 10 ^ width_of m ≤ 10 ^ k = pow-le-pow_right (omega arith) f in
+        absurd (omega (arith, width_holds m))
 
 pub width_pos : (n : ℕ) → 0 < width_of n
 width_pos n =

@@ -1,11 +1,12 @@
 -- Text put into room: one text behind the other, a text from its last byte on, and all of it.
-use mathlib.Core.List.{List, [], ◌∷◌, ◌++◌}
+use mathlib.Core.List.{List, [], ◌∷◌, ◌++◌, append_assoc}
 use mathlib.Core.Path.{◌≡◌, refl, sym, ap, ◌∙◌}
 use Prim.Native.Nat.{ℕ, suc, ◌+◌, ◌-◌, ◌/◌, ◌%◌, ◌≤◌, ◌<◌}
 use native.Mathlib.Nat.{add-zero}
 use native.Mathlib.Omega.{arith}
-use lib.ListN.{length, get_or, set, drop, length-append}
-use lib.Seq.{sets, length-sets, set_comm, drop-cons}
+use lib.ListN.{length, set, drop, length-append}
+use lib.Seq.{sets, sets-eq, length-sets, set_comm, drop-drop}
+use borrow.Rule.Slice.PartMut.{put_mid}
 use Rattle.facts.proofs.ChoiceLaws.{coincide}
 use Rattle.bytes_le.proofs.Laws.{sets_join}
 use Rattle.bytes_le.proofs.FieldLaws.{sets_front}
@@ -53,15 +54,12 @@ sets_last s at (x ∷ xs) c =
     ∙ ap (λ (k : ℕ). sets (set (set s at x) k c) (suc at) xs) e
     ∙ sets_last (set s at x) (suc at) xs c
 
--- and from its first on
-pub sets_first : (s : List ℕ) (at i : ℕ) (xs : List ℕ) → i < length xs
-    → sets (set s (at + i) (get_or xs i 0)) (at + (i + 1)) (drop (i + 1) xs) ≡ sets s (at + i) (drop i xs)
-sets_first s at i xs h =
-    let e : at + (i + 1) ≡ suc (at + i) = omega arith in
-    let f : i + 1 ≡ suc i = omega arith in
-    ap (λ (k : ℕ). sets (set s (at + i) (get_or xs i 0)) k (drop (i + 1) xs)) e
-    ∙ ap (λ (k : ℕ). sets (set s (at + i) (get_or xs i 0)) (suc (at + i)) (drop k xs)) f
-    ∙ ap (sets s (at + i)) (sym (drop-cons xs i 0 h))
+-- a text copied over the part of the room that it is put to
+pub copied : (s : List ℕ) (at : ℕ) (xs : List ℕ) {t : List ℕ} → at + length xs ≤ length s → t ≡ xs
+    → put_mid at (at + length xs - at) s t ≡ sets s at xs
+copied s at xs h e =
+    let n : at + length xs - at ≡ length xs = omega arith in
+    rw (sets-eq xs s at h, e, n, drop-drop, append_assoc)
 
 -- a text at the start of the room, and what stays behind it
 pub put_front : {s t xs : List ℕ} {n : ℕ} → Put s 0 xs t n → length xs ≤ length s → t ≡ xs ++ drop (length xs) s
@@ -73,12 +71,13 @@ pub digits_none : (b i n : ℕ) (s : List ℕ) (at : ℕ) → i ≡ 0 → s ≡ 
 unfolding digits_of
 digits_none b i n s at e = ap (λ (k : ℕ). sets s at (digits_of b k n)) (sym e)
 
-pub digits_last : (b i n : ℕ) (s : List ℕ) (at : ℕ) → 0 < i
-    → sets (set s (at + (i - 1)) (figure_of (n % b))) at (digits_of b (i - 1) (n / b)) ≡ sets s at (digits_of b i n)
+-- i is the place behind the digit that is written
+pub digits_last : (b i n : ℕ) (s : List ℕ) (at : ℕ) {c : ℕ} → at < i → c ≡ figure_of (n % b)
+    → sets (set s (i - 1) c) at (digits_of b (i - 1 - at) (n / b)) ≡ sets s at (digits_of b (i - at) n)
 unfolding digits_of
-digits_last b i n s at h =
-    let e : suc (i - 1) ≡ i = omega arith in
-    ap (λ (k : ℕ). sets (set s (at + k) (figure_of (n % b))) at (digits_of b (i - 1) (n / b)))
-    (sym (length_digits b (i - 1) (n / b)))
-    ∙ sets_last s at (digits_of b (i - 1) (n / b)) (figure_of (n % b))
-    ∙ ap (λ (k : ℕ). sets s at (digits_of b k n)) e
+digits_last b i n s at {c} h e =
+    let ds = digits_of b (i - 1 - at) (n / b) in
+    let p : at + length ds ≡ i - 1 = omega (arith, length_digits b (i - 1 - at) (n / b)) in
+    let k : suc (i - 1 - at) ≡ i - at = omega arith in
+    ap (λ (x : ℕ). sets (set s x c) at ds) (sym p) ∙ ap (λ (x : ℕ). sets (set s (at + length ds) x) at ds) e
+    ∙ sets_last s at ds (figure_of (n % b)) ∙ ap (λ (x : ℕ). sets s at (digits_of b x n)) k

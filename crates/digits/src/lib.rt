@@ -10,12 +10,9 @@ pub fn put_text(room: &mut [u8], at: usize, text: &[u8]) -> usize
     requires { at + length text.now ≤ length room.old }
     ensures { Put room.old at text.now room.new result }
 {
-    let mut i: usize = 0;
-    while i < text.len() {
-        room[at + i] = text[i];
-        i += 1;
-    }
-    at + i
+    let end = at + text.len();
+    room[at..end].copy_from_slice(text);
+    end
 }
 
 fn figure(digit: u64) -> u8
@@ -35,11 +32,9 @@ fn put_digits(room: &mut [u8], at: usize, base: u64, count: usize, n: u64) -> us
     requires count_in_bounds { at + count ≤ length room.old }
     ensures { Put room.old at (digits_of base count n) room.new result }
 {
-    let mut i = count;
     let mut rest = n;
-    while 0 < i {
-        i -= 1;
-        room[at + i] = figure(rest % base);
+    for i in (at..at + count).rev() {
+        room[i] = figure(rest % base);
         rest /= base;
     }
     at + count
@@ -53,17 +48,11 @@ pub fn put_hex(room: &mut [u8], at: usize, count: usize, n: u64) -> usize
     put_digits(room, at, 16, count, n)
 }
 
-// How many decimal digits a number has.
+// How many decimal digits a number has: 0 has one, as 1 has.
 fn width(n: u64) -> usize
     ensures { result ≡ width_of n }
 {
-    let mut rest = n;
-    let mut count: usize = 1;
-    while 10 <= rest {
-        rest /= 10;
-        count += 1;
-    }
-    count
+    n.max(1).ilog10() as usize + 1
 }
 
 // Writes n in decimal, without a zero in front.

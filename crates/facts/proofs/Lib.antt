@@ -4,3 +4,4 @@ pub mod CounterLaws
 pub mod BankingLaws
 pub mod BitLaws
 pub mod ListLaws
+pub mod Handed

@@ -1,4 +1,5 @@
 -- Bytes by their kind: which state they are, whether a fit one, and that a call on the bytes is one on the state.
+use Rattle.std.specs.Prelude.{Ok, Err, Some, None, Result, Option}
 use mathlib.Core.Bool.{Bool, true, false, not}
 use mathlib.Core.List.{List}
 use mathlib.Core.Path.{◌≡◌, refl, sym, ap, ◌∙◌}
@@ -10,7 +11,6 @@ use Rattle.facts.specs.Choice.{pick, both}
 use Rattle.facts.specs.Listed.{one_of}
 use Rattle.facts.proofs.ChoiceLaws.{both_left, both_right, both_one, both_false, not_true, not_false}
 use Rattle.banking.specs.Banks.{from_one, Inside}
-use Rattle.banking.specs.declared.RamAt.{RamAt}
 use Rattle.bytes_le.specs.Little.{field_at}
 use Rattle.image.specs.Image.{padded_length}
 use Rattle.header.specs.Size.{ram_sizes}
@@ -31,19 +31,17 @@ use Rattle.cartridge.specs.Fit.{bank_counts, fit_board, fit_cart}
 use Rattle.cartridge.specs.Fit as cartridge
 use Rattle.cartridge.specs.declared.Cartridge.{Cartridge}
 use Rattle.access.specs.Verdict.{noes_by, verdict_by, noes, verdict_of}
-use Rattle.access.specs.declared.Verdict.{Verdict}
-use Rattle.access.specs.declared.Verdict.TheVariants.{Ram}
 use Rattle.access.specs.declared.BusRefusal.TheVariants.{Unfit}
 use Rattle.access.proofs.Laws.{by_tests}
+use Rattle.access.specs.declared.Target.{Target}
+use Rattle.access.specs.declared.BusRefusal.{BusRefusal}
+use Rattle.access.specs.declared.Target.TheVariants.{Ram}
 use Rattle.bus.specs.Bus.{lent_both, read_verdict, read_by, read_of}
-use Rattle.bus.specs.declared.ReadAnswer.{ReadAnswer}
-use Rattle.bus.specs.declared.ReadAnswer.TheVariants.{Refuse}
 use Rattle.bus.proofs.Laws.{read_answered, read_area}
 use Rattle.state_fields.specs.Fields.{are_flags}
 use Rattle.state_fields.specs.ClockFields.{registers_in, clock_in}
 use Rattle.states.specs.Reading.{flags_of, untimed_in, timed_in, mapper_at, cart_at, is_state, decode_of}
 use Rattle.states.specs.OnState.{on_state}
-use Rattle.states.specs.declared.Decoded.TheVariants.{To, NoState}
 use Rattle.states.proofs.Laws.{every_kind, of_kind, decoded_at}
 use Rattle.flat.specs.Kinds.{fit_at, fit_kind}
 
@@ -157,7 +155,7 @@ pub selected_way : (m : mbc3-state.Mbc3) (size addr : ℕ) {t : Bool} → m.memo
 selected_way m size addr e = ap (λ (t : Bool). pick t (Bytes (mbc3.ram_at m size addr)) (Timer m)) (sym e)
 
 -- and one whose RAM is selected
-module _ (m : mbc3-state.Mbc3) (size addr : ℕ) (e : m.memory ≡ true) {place : RamAt} (p : place ≡ mbc3.ram_at m size addr) where
+module _ (m : mbc3-state.Mbc3) (size addr : ℕ) (e : m.memory ≡ true) {place : Option ℕ} (p : place ≡ mbc3.ram_at m size addr) where
   pub selected_bytes : Bytes place ≡ window.way_of (Mbc3 m) size addr
   selected_bytes = ap Bytes p ∙ selected_way m size addr e
 
@@ -172,7 +170,7 @@ module _ (m : mbc3-state.Mbc3) (size addr : ℕ) (e : m.memory ≡ true) {place 
 
 module _ (s : List ℕ) {k : ℕ} {f : Bool} (p : k ≡ field_at 1 s 0) (q : f ≡ fit_at s k) where
   module _ {A : Type 0} (g : Cartridge → A) (x : A) (u : fit_cart (cart_at s k) ≡ false → x ≡ g (cart_at s k)) where
-    unfit : (b : Bool) → both b (fit_cart (cart_at s k)) ≡ false → x ≡ on_state g x (pick b (To (cart_at s k)) NoState)
+    unfit : (b : Bool) → both b (fit_cart (cart_at s k)) ≡ false → x ≡ on_state g x (pick b (Some (cart_at s k)) None)
     unfit true e = u e
     unfit false e = refl
 
@@ -187,15 +185,15 @@ module _ (s : List ℕ) {k : ℕ} {f : Bool} (p : k ≡ field_at 1 s 0) (q : f �
     pub fit_cart_lem : fit_cart (cart_at s k) ≡ true
     fit_cart_lem = both_right (is_state s k) _ fit_state
 
-    pub is_decoded : To (cart_at s k) ≡ decode_of s
+    pub is_decoded : Some (cart_at s k) ≡ decode_of s
     is_decoded =
-        ap (λ (b : Bool). pick b (To (cart_at s k)) NoState) (sym (both_left (is_state s k) _ fit_state)) ∙ decoded_at s p
+        ap (λ (b : Bool). pick b (Some (cart_at s k)) None) (sym (both_left (is_state s k) _ fit_state)) ∙ decoded_at s p
 
     pub fit_call : {A : Type 0} (g : Cartridge → A) (x : A) → g (cart_at s k) ≡ on_state g x (decode_of s)
     fit_call g x = ap (on_state g x) is_decoded
 
 -- the verdict on an access to a fit cartridge, whose fitness is not asked again
-pub fit_judged : (c : Cartridge) (addr : ℕ) (l bad : Bool) {v : Verdict} → fit_cart c ≡ true → v ≡ verdict_by addr (noes_by true l addr bad)
+pub fit_judged : (c : Cartridge) (addr : ℕ) (l bad : Bool) {v : Result Target BusRefusal} → fit_cart c ≡ true → v ≡ verdict_by addr (noes_by true l addr bad)
     → v ≡ verdict_of c l addr bad
 unfolding verdict_of noes
 fit_judged c addr l bad f e = e ∙ ap (λ (b : Bool). verdict_by addr (noes_by b l addr bad)) (sym f)
@@ -203,23 +201,23 @@ fit_judged c addr l bad f e = e ∙ ap (λ (b : Bool). verdict_by addr (noes_by 
 -- ---- and so a read
 
 module _ (s rom ram : List ℕ) (addr : ℕ) {k : ℕ} {f : Bool} (p : k ≡ field_at 1 s 0) (q : f ≡ fit_at s k) where
-  abbrev reads : Cartridge → ReadAnswer
+  abbrev reads : Cartridge → Result ℕ BusRefusal
   reads c = read_of c rom ram addr
 
-  unfit_refused : fit_cart (cart_at s k) ≡ false → Refuse Unfit ≡ reads (cart_at s k)
+  unfit_refused : fit_cart (cart_at s k) ≡ false → Err Unfit ≡ reads (cart_at s k)
   unfolding read_of read_verdict
   unfit_refused e = ap (read_by (cart_at s k) rom ram addr) (by_tests (cart_at s k) _ addr false e refl refl refl refl)
 
-  pub unfit_read : not f ≡ true → Refuse Unfit ≡ on_state reads (Refuse Unfit) (decode_of s)
-  unfit_read = unfit_call s p q reads (Refuse Unfit) unfit_refused
+  pub unfit_read : not f ≡ true → Err Unfit ≡ on_state reads (Err Unfit) (decode_of s)
+  unfit_read = unfit_call s p q reads (Err Unfit) unfit_refused
 
-  module _ (h : not f ≡ false) {l : Bool} {v : Verdict} (r : l ≡ lent_both (cart_at s k) (length rom) (length ram))
+  module _ (h : not f ≡ false) {l : Bool} {v : Result Target BusRefusal} (r : l ≡ lent_both (cart_at s k) (length rom) (length ram))
       (e : v ≡ verdict_by addr (noes_by true l addr false)) where
     judged : v ≡ verdict_of (cart_at s k) l addr false
     judged = fit_judged (cart_at s k) addr l false (fit_cart_lem s p q h) e
 
-    pub area_lent : v ≡ Ram → length ram ≡ cartridge.area_of (cart_at s k)
+    pub area_lent : v ≡ (Ok Ram) → length ram ≡ cartridge.area_of (cart_at s k)
     area_lent = read_area (cart_at s k) addr rom ram refl r judged
 
-    pub fit_read : {u : Verdict} → v ≡ u → read_by (cart_at s k) rom ram addr u ≡ on_state reads (Refuse Unfit) (decode_of s)
-    fit_read g = read_answered (cart_at s k) addr rom ram refl r judged g ∙ fit_call s p q h reads (Refuse Unfit)
+    pub fit_read : {u : Result Target BusRefusal} → v ≡ u → read_by (cart_at s k) rom ram addr u ≡ on_state reads (Err Unfit) (decode_of s)
+    fit_read g = read_answered (cart_at s k) addr rom ram refl r judged g ∙ fit_call s p q h reads (Err Unfit)

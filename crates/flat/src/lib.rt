@@ -1,8 +1,10 @@
 // What a call needs, straight from the bytes of a state. No cartridge is built: each function looks at the bytes of the state's kind,
 // and answers as the cartridge would that they are.
+//
+// A kind is the first byte of a state that C keeps, and stays a byte: the functions here answer for every byte, also one that is no kind.
 #![tactic(auto)]
 
-ghost use Rattle.std.specs.Prelude.{true, false, not, ◌≡◌, ◌+◌, ◌≤◌, eqb, length};
+ghost use Rattle.std.specs.Prelude.{true, false, not, ◌≡◌, ◌+◌, ◌≤◌, eqb, length, Err};
 ghost use Rattle.facts.specs.Choice.{both};
 ghost use Rattle.bytes_le.specs.Little.{field_at};
 ghost use Rattle.types.specs.Types.{beyond_of};
@@ -15,15 +17,14 @@ ghost use Rattle.window.specs.Window as window;
 ghost use Rattle.cartridge.specs.Fit.{fit_cart, area_of};
 ghost use Rattle.access.specs.declared.BusRefusal.TheVariants.{Unfit};
 ghost use Rattle.bus.specs.Bus as bus;
-ghost use Rattle.bus.specs.declared.ReadAnswer.TheVariants.{Refuse};
 ghost use Rattle.state_fields.specs.Fields.{are_flags};
 ghost use Rattle.state_fields.specs.ClockFields.{clock_in};
 ghost use Rattle.states.specs.Reading.{flags_of, mbc1_in, timed_in, mapper_at, cart_at, decode_of};
 ghost use Rattle.states.specs.OnState.{on_state};
 ghost use Rattle.flat.specs.Kinds.{fit_kind, fit_at};
 
-use access::{BusRefusal, Verdict};
-use bus::ReadAnswer;
+use access::{BusRefusal, Target};
+use bytes_le::Field;
 use facts::both;
 use mapper::Mapper;
 use mbc2::Mbc2;
@@ -37,10 +38,7 @@ fn fit_clock(s: &[u8]) -> bool
     requires { 64 ≤ length s.now }
     ensures { result ≡ fit_clock (clock_in s.now) }
 {
-    let frozen = both(
-        fit_clock_registers(s, 52),
-        bytes_le::read_u32(s, 40) < 2097152,
-    );
+    let frozen = both(fit_clock_registers(s, 52), u32::read(s, 40) < 2097152);
     both(fit_clock_registers(s, 45), frozen)
 }
 
@@ -49,7 +47,7 @@ fn fit_timed(s: &[u8]) -> bool
     requires { 64 ≤ length s.now }
     ensures { result ≡ mbc3.fit_registers (timed_in s.now) }
 {
-    let clock = both(bytes_le::read_u8(s, 7) <= 4, fit_clock(s));
+    let clock = both(u8::read(s, 7) <= 4, fit_clock(s));
     both(untimed_in(s).fit(), clock)
 }
 
@@ -58,8 +56,8 @@ fn fits(s: &[u8], kind: u8, limits: Kind, rest: bool) -> bool
     requires { 64 ≤ length s.now }
     ensures { result ≡ both (both (are_flags s.now (flags_of kind)) (not (beyond_of limits (field_at 2 s.now 8) (field_at 8 s.now 24)))) rest }
 {
-    let banks = bytes_le::read_u16(s, 8) as u32;
-    let size = bytes_le::read_u64(s, 24) as usize;
+    let banks = u16::read(s, 8) as u32;
+    let size = u64::read(s, 24) as usize;
     let held = both(
         states::are_flags(s, kind),
         !types::is_beyond(limits, banks, size),
@@ -72,7 +70,7 @@ fn fit_multicart(s: &[u8]) -> bool
     requires { 64 ≤ length s.now }
     ensures { result ≡ both (eqb (field_at 2 s.now 8) 64) (mbc1.fit_registers (mbc1_in s.now true)) }
 {
-    both(bytes_le::read_u16(s, 8) == 64, mbc1_in(s, true).fit())
+    both(u16::read(s, 8) == 64, mbc1_in(s, true).fit())
 }
 
 // What a kind asks of the bytes, its registers among it.
@@ -96,14 +94,14 @@ fn fit_kind(s: &[u8], kind: u8) -> bool
 pub fn fit(s: &[u8; 64], kind: u8) -> bool
     ensures { result ≡ fit_at s.now kind }
 {
-    let banks = bytes_le::read_u16(s, 8);
+    let banks = u16::read(s, 8);
     if !cartridge::is_bank_count(banks) {
         return false;
     }
-    if !cartridge::fills(bytes_le::read_u64(s, 16) as usize, banks) {
+    if !cartridge::fills(u64::read(s, 16) as usize, banks) {
         return false;
     }
-    if !cartridge::is_ram_size(bytes_le::read_u64(s, 24) as usize) {
+    if !cartridge::is_ram_size(u64::read(s, 24) as usize) {
         return false;
     }
     fit_kind(s, kind)
@@ -114,7 +112,7 @@ pub fn is_area(s: &[u8], kind: u8, len: usize) -> bool
     requires { 64 ≤ length s.now }
     ensures { result ≡ eqb len (area_of (cart_at s.now kind)) }
 {
-    let size = bytes_le::read_u64(s, 24) as usize;
+    let size = u64::read(s, 24) as usize;
     if kind == 3 {
         return Mapper::Mbc2(mbc2_in(s)).is_area(size, len);
     }
@@ -126,7 +124,7 @@ fn lent(s: &[u8], kind: u8, image: usize, ram: usize) -> bool
     requires { 64 ≤ length s.now }
     ensures { result ≡ bus.lent_both (cart_at s.now kind) image ram }
 {
-    let length = bytes_le::read_u64(s, 16) as usize;
+    let length = u64::read(s, 16) as usize;
     both(image == length, is_area(s, kind, ram))
 }
 
@@ -176,7 +174,7 @@ fn rom_byte(s: &[u8], kind: u8, image: &[u8], addr: u16) -> u8
     requires kind_value { fit_cart (cart_at s.now kind) ≡ true }
     ensures { result ≡ bus.rom_byte (cart_at s.now kind) image.now addr }
 {
-    let banks = bytes_le::read_u16(s, 8);
+    let banks = u16::read(s, 8);
     let bank = bank_at(s, kind, addr);
     image::byte_at(image, banking::rom_place(banks, bank, addr))
 }
@@ -217,7 +215,7 @@ fn ram_byte(s: &[u8], kind: u8, ram: &[u8], addr: u16) -> u8
     requires ram_len { length ram.now ≡ area_of (cart_at s.now kind) }
     ensures { result ≡ window.read_of (mapper_at s.now kind) (field_at 8 s.now 24) ram.now addr }
 {
-    let size = bytes_le::read_u64(s, 24) as usize;
+    let size = u64::read(s, 24) as usize;
     match kind {
         0 => window::load(ram, NoMapper::new().ram_at(size, addr)),
         1 => window::load(ram, mbc1_in(s, false).ram_at(size, addr)),
@@ -231,16 +229,17 @@ fn ram_byte(s: &[u8], kind: u8, ram: &[u8], addr: u16) -> u8
 }
 
 // What an address reads, of bytes that are a state; others are as one that is unfit, and are looked at no further.
-pub fn read(s: &[u8; 64], image: &[u8], ram: &[u8], addr: u16) -> ReadAnswer
-    ensures { result ≡ on_state (λ c. bus.read_of c image.now ram.now addr) (Refuse Unfit) (decode_of s.now) }
+pub fn read(s: &[u8; 64], image: &[u8], ram: &[u8], addr: u16) -> Result<u8, BusRefusal>
+    ensures { result ≡ on_state (λ c. bus.read_of c image.now ram.now addr) (Err Unfit) (decode_of s.now) }
 {
-    let kind = bytes_le::read_u8(s, 0);
+    let kind = u8::read(s, 0);
     if !fit(s, kind) {
-        return ReadAnswer::Refuse(BusRefusal::Unfit);
+        return Err(BusRefusal::Unfit);
     }
-    match access::decide(true, lent(s, kind, image.len(), ram.len()), addr, false) {
-        Verdict::Rom => ReadAnswer::Byte(rom_byte(s, kind, image, addr)),
-        Verdict::Ram => ReadAnswer::Byte(ram_byte(s, kind, ram, addr)),
-        Verdict::Refuse(why) => ReadAnswer::Refuse(why),
+    let lent = lent(s, kind, image.len(), ram.len());
+    let target = access::decide(true, lent, addr, false)?;
+    match target {
+        Target::Rom => Ok(rom_byte(s, kind, image, addr)),
+        Target::Ram => Ok(ram_byte(s, kind, ram, addr)),
     }
 }

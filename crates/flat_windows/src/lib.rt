@@ -1,17 +1,18 @@
 // The windows of a cartridge straight from the bytes of its state. No mapper is built: each kind is asked for what moves its windows.
+// A kind stays the byte that C keeps, as in `flat`.
 #![tactic(auto)]
 
-ghost use Rattle.std.specs.Prelude.{◌≡◌, ◌≤◌, length};
+ghost use Rattle.std.specs.Prelude.{◌≡◌, ◌≤◌, length, None};
 ghost use Rattle.mapper.specs.declared.Mapper.TheVariants as by;
 ghost use Rattle.states.specs.Reading.{decode_of, mapper_at};
 ghost use Rattle.states.specs.OnState.{on_state};
 ghost use Rattle.windows.specs.Windows.{ram_at, windows_by, Stands, ask_of};
-ghost use Rattle.windows.specs.declared.Asked.TheVariants.{Unfit};
 
+use bytes_le::Field;
 use mbc3::Mbc3;
 use no_mapper::NoMapper;
 use states::{mbc1_in, mbc2_in, mbc5_in, timed_in, untimed_in};
-use windows::{Asked, RamWindow, Windows};
+use windows::{RamWindow, Windows};
 
 // The RAM bank, or what stands where RAM is not selected.
 fn mbc3_at(m: Mbc3, size: usize) -> RamWindow
@@ -60,14 +61,14 @@ fn standing(s: &[u8], kind: u8, banks: u16, size: usize) -> Windows
 }
 
 // Where the windows stand now, of bytes that are a state; others are as one that is unfit.
-pub fn of(s: &[u8; 64]) -> Asked
-    ensures { result ≡ on_state ask_of Unfit (decode_of s.now) }
+pub fn of(s: &[u8; 64]) -> Option<Windows>
+    ensures { result ≡ on_state ask_of None (decode_of s.now) }
 {
-    let kind = bytes_le::read_u8(s, 0);
+    let kind = u8::read(s, 0);
     if !flat::fit(s, kind) {
-        return Asked::Unfit;
+        return None;
     }
-    let banks = bytes_le::read_u16(s, 8);
-    let size = bytes_le::read_u64(s, 24) as usize;
-    Asked::To(standing(s, kind, banks, size))
+    let banks = u16::read(s, 8);
+    let size = u64::read(s, 24) as usize;
+    Some(standing(s, kind, banks, size))
 }

@@ -1,4 +1,5 @@
 -- A write to a state's bytes, and clocks that pass on them, are the bus's on what the bytes are.
+use Rattle.std.specs.Prelude.{Ok, Err, Result}
 use mathlib.Core.Bool.{Bool, true, false, not}
 use mathlib.Core.List.{List, [], ◌∷◌}
 use mathlib.Core.Path.{◌≡◌, refl, sym, ap, ◌∙◌}
@@ -12,29 +13,26 @@ use Rattle.facts.proofs.ChoiceLaws.{pick_has}
 use Rattle.bytes_le.specs.Little.{field_at}
 use Rattle.clock.specs.Ticking.{late}
 use Rattle.clock.specs.declared.AdvanceRefusal.TheVariants as advance
+use Rattle.clock.specs.declared.AdvanceRefusal.{AdvanceRefusal}
 use Rattle.mbc3.specs.Registers as mbc3
 use Rattle.mbc3.specs.declared.Mbc3 as mbc3-state
 use Rattle.timer.specs.Advance as timer
 use Rattle.mapper.specs.Mappers as mapper
 use Rattle.mapper.specs.declared.Mapper.{Mapper}
 use Rattle.mapper.specs.declared.Mapper.TheVariants.{NoMapper, Mbc1, Mbc2, Mbc3, Mbc5}
-use Rattle.mapper.specs.declared.Advanced as declared
-use Rattle.mapper.specs.declared.Advanced.TheVariants as moved
 use Rattle.window.specs.Window as window
 use Rattle.cartridge.specs.Fit.{fit_cart, area_of}
 use Rattle.cartridge.specs.declared.Cartridge.{Cartridge}
 use Rattle.cartridge.specs.With.{with_mapper}
 use Rattle.cartridge.proofs.Laws.{fit_board_lem}
 use Rattle.access.specs.Verdict.{noes_by, verdict_by, verdict_of}
-use Rattle.access.specs.declared.Verdict.{Verdict}
-use Rattle.access.specs.declared.Verdict.TheVariants.{Rom, Ram}
-use Rattle.access.specs.declared.Verdict.TheVariants as verdict
 use Rattle.access.specs.declared.BusRefusal.{BusRefusal}
 use Rattle.access.specs.declared.BusRefusal.TheVariants.{Unfit}
 use Rattle.access.proofs.Laws.{by_tests}
+use Rattle.access.specs.declared.Target.{Target}
+use Rattle.access.specs.declared.Target.TheVariants.{Rom, Ram}
 use Rattle.bus.specs.Bus.{write_verdict, write_by, area_by, write_of, area_after}
 use Rattle.bus.specs.Advance.{advance_of, from_mapper}
-use Rattle.bus.specs.declared.Advanced.TheVariants.{To, Refuse}
 use Rattle.bus.proofs.Laws.{write_answered, area_answered, write_area, unfit_answer, mapper_answer}
 use Rattle.states.specs.Layout.{encode_of}
 use Rattle.states.specs.Reading.{cart_in, mapper_at, cart_at}
@@ -42,10 +40,6 @@ use Rattle.flat.specs.Kinds.{fit_at}
 use Rattle.states.proofs.Laws.{every_kind, of_kind}
 use Rattle.flat.proofs.Laws.{area_at, unfit_call, fit_cart_lem, fit_call, fit_judged}
 use Rattle.flat_write.specs.Calls.{wrote_by, write_state, wrote_of, state_written, area_written, passed_by, timed, advance_state, passed_of, state_advanced}
-use Rattle.flat_write.specs.declared.Wrote.{Wrote}
-use Rattle.flat_write.specs.declared.Wrote.TheVariants as wrote
-use Rattle.flat_write.specs.declared.Passed.{Passed}
-use Rattle.flat_write.specs.declared.Passed.TheVariants as passed
 
 -- ---- a write to the registers, by the kind
 
@@ -70,7 +64,7 @@ register_at s addr byte e p d h =
 
 -- ---- a write to a fit state, by the verdict
 
-module _ (s ram : List ℕ) (addr byte kind : ℕ) {lent bad : Bool} {v : Verdict} (f : fit_cart (cart_at s kind) ≡ true)
+module _ (s ram : List ℕ) (addr byte kind : ℕ) {lent bad : Bool} {v : Result Target BusRefusal} (f : fit_cart (cart_at s kind) ≡ true)
     (p : lent ≡ eqb (length ram) (area_of (cart_at s kind))) (q : bad ≡ mapper.bad_selection (mapper_at s kind) addr byte)
     (e : v ≡ verdict_by addr (noes_by true lent addr bad)) where
   abbrev cart : Cartridge
@@ -79,16 +73,16 @@ module _ (s ram : List ℕ) (addr byte kind : ℕ) {lent bad : Bool} {v : Verdic
   judged : v ≡ verdict_of cart lent addr bad
   judged = fit_judged cart addr lent bad f e
 
-  pub area_lent : {m : Mapper} {z : ℕ} → v ≡ Ram → m ≡ mapper_at s kind → z ≡ field_at 8 s 24 → length ram ≡ mapper.area_of m z
+  pub area_lent : {m : Mapper} {z : ℕ} → v ≡ (Ok Ram) → m ≡ mapper_at s kind → z ≡ field_at 8 s 24 → length ram ≡ mapper.area_of m z
   area_lent g d h = area_at s {kind = kind} refl d h (write_area cart addr byte ram p q judged g)
 
   -- the answer, and what is left of the state and the area
-  abbrev Left : Wrote → List ℕ → List ℕ → Type 0
+  abbrev Left : Result (Unit {0}) BusRefusal → List ℕ → List ℕ → Type 0
   Left r t a =
       (r ≡ wrote_by (write_of cart ram addr byte))
       × ((t ≡ write_state s (write_of cart ram addr byte)) × (a ≡ area_after cart ram addr byte))
 
-  left : {u : Verdict} {r : Wrote} {t a : List ℕ} → v ≡ u → r ≡ wrote_by (write_by cart addr byte u)
+  left : {u : Result Target BusRefusal} {r : Result (Unit {0}) BusRefusal} {t a : List ℕ} → v ≡ u → r ≡ wrote_by (write_by cart addr byte u)
       → t ≡ write_state s (write_by cart addr byte u) → a ≡ area_by cart ram addr byte u
       → Left r t a
   left g x y w =
@@ -97,12 +91,12 @@ module _ (s ram : List ℕ) (addr byte kind : ℕ) {lent bad : Bool} {v : Verdic
         (y ∙ ap (write_state s) answer, w ∙ area_answered cart addr byte ram p q judged g),
       )
 
-  pub rom_left : {t : List ℕ} → v ≡ Rom → t ≡ encode_of (cart_in s (mapper.written (mapper_at s kind) addr byte)) → Left wrote.Done t ram
+  pub rom_left : {t : List ℕ} → v ≡ (Ok Rom) → t ≡ encode_of (cart_in s (mapper.written (mapper_at s kind) addr byte)) → Left (Ok tt) t ram
   rom_left g h = left g refl h refl
 
-  pub ram_left : {m n : Mapper} {z : ℕ} {t a : List ℕ} → v ≡ Ram → m ≡ mapper_at s kind → z ≡ field_at 8 s 24
+  pub ram_left : {m n : Mapper} {z : ℕ} {t a : List ℕ} → v ≡ (Ok Ram) → m ≡ mapper_at s kind → z ≡ field_at 8 s 24
       → n ≡ window.mapper_after m z addr byte → t ≡ encode_of (cart_in s n) → a ≡ window.area_after m z ram addr byte
-      → Left wrote.Done t a
+      → Left (Ok tt) t a
   ram_left {z = z} g x y d h w =
       left g refl
       (h
@@ -112,41 +106,41 @@ module _ (s ram : List ℕ) (addr byte kind : ℕ) {lent bad : Bool} {v : Verdic
       (w ∙ ap (λ (i : Mapper). window.area_after i z ram addr byte) x
       ∙ ap (λ (i : ℕ). window.area_after (mapper_at s kind) i ram addr byte) y)
 
-  pub refused_left : {w : BusRefusal} → v ≡ verdict.Refuse w → Left (wrote.Refuse w) s ram
+  pub refused_left : {w : BusRefusal} → v ≡ Err w → Left (Err w) s ram
   refused_left g = left g refl refl refl
 
 -- ---- a write to any bytes
 
-unfit_verdict : (c : Cartridge) (ram : List ℕ) (addr byte : ℕ) → fit_cart c ≡ false → verdict.Refuse Unfit ≡ write_verdict c ram addr byte
+unfit_verdict : (c : Cartridge) (ram : List ℕ) (addr byte : ℕ) → fit_cart c ≡ false → Err Unfit ≡ write_verdict c ram addr byte
 unfolding write_verdict
 unfit_verdict c ram addr byte e = by_tests c _ addr _ e refl refl refl refl
 
 module _ (s ram : List ℕ) (addr byte : ℕ) {k : ℕ} {f : Bool} (p : k ≡ field_at 1 s 0) (q : f ≡ fit_at s k) where
-  abbrev Written : Wrote → List ℕ → List ℕ → Type 0
+  abbrev Written : Result (Unit {0}) BusRefusal → List ℕ → List ℕ → Type 0
   Written r t a =
       (r ≡ wrote_of s ram addr byte) × ((t ≡ state_written s ram addr byte) × (a ≡ area_written s ram addr byte))
 
-  pub unfit_written : not f ≡ true → Written (wrote.Refuse Unfit) s ram
+  pub unfit_written : not f ≡ true → Written (Err Unfit) s ram
   unfolding wrote_of state_written area_written write_of area_after
   unfit_written h =
       let x = cart_at s k in (
-        unfit_call s p q (λ c. wrote_by (write_of c ram addr byte)) (wrote.Refuse Unfit)
-            (λ e. ap (λ (v : Verdict). wrote_by (write_by x addr byte v)) (unfit_verdict x ram addr byte e)) h,
+        unfit_call s p q (λ c. wrote_by (write_of c ram addr byte)) (Err Unfit)
+            (λ e. ap (λ (v : Result Target BusRefusal). wrote_by (write_by x addr byte v)) (unfit_verdict x ram addr byte e)) h,
         (
           unfit_call s p q (λ c. write_state s (write_of c ram addr byte)) s
-              (λ e. ap (λ (v : Verdict). write_state s (write_by x addr byte v)) (unfit_verdict x ram addr byte e)) h,
+              (λ e. ap (λ (v : Result Target BusRefusal). write_state s (write_by x addr byte v)) (unfit_verdict x ram addr byte e)) h,
           unfit_call s p q (λ c. area_after c ram addr byte) ram
               (λ e. ap (area_by x ram addr byte) (unfit_verdict x ram addr byte e)) h,
         ),
       )
 
-  pub fit_written : not f ≡ false → {r : Wrote} {t a : List ℕ}
+  pub fit_written : not f ≡ false → {r : Result (Unit {0}) BusRefusal} {t a : List ℕ}
       → (r ≡ wrote_by (write_of (cart_at s k) ram addr byte))
       × ((t ≡ write_state s (write_of (cart_at s k) ram addr byte)) × (a ≡ area_after (cart_at s k) ram addr byte))
       → Written r t a
   unfolding wrote_of state_written area_written
   fit_written h e = (
-    e.0 ∙ fit_call s p q h (λ c. wrote_by (write_of c ram addr byte)) (wrote.Refuse Unfit),
+    e.0 ∙ fit_call s p q h (λ c. wrote_by (write_of c ram addr byte)) (Err Unfit),
     (
       e.1.0 ∙ fit_call s p q h (λ c. write_state s (write_of c ram addr byte)) s,
       e.1.1 ∙ fit_call s p q h (λ c. area_after c ram addr byte) ram,
@@ -173,26 +167,26 @@ timed_on (Mbc2 m) n = refl
 timed_on (Mbc3 m) n = pick_has (λ (x : mbc3-state.Mbc3). x.timer ≡ m.timer) m.timer refl refl
 timed_on (Mbc5 m) n = refl
 
-abbrev timed_by : declared.Advanced → Bool
-timed_by (moved.To m) = timed m
-timed_by (moved.Refuse w) = true
+abbrev timed_by : Result Mapper AdvanceRefusal → Bool
+timed_by (Ok m) = timed m
+timed_by (Err w) = true
 
-pub timed_after : (m : Mapper) (n : ℕ) {next : Mapper} → moved.To next ≡ mapper.advance_of m n → timed m ≡ true → timed next ≡ true
+pub timed_after : (m : Mapper) (n : ℕ) {next : Mapper} → Ok next ≡ mapper.advance_of m n → timed m ≡ true → timed next ≡ true
 unfolding mapper.advance_of
 timed_after m n e t = ap timed_by e ∙ go (not (mapper.fit_registers m)) (mapper.late m n)
   where
     go : (a b : Bool)
-        → timed_by (first_no moved.Refuse (no a advance.Unfit ∷ no b advance.Late ∷ []) (moved.To (mapper.clocks_on m n))) ≡ true
+        → timed_by (first_no Err (no a advance.Unfit ∷ no b advance.Late ∷ []) (Ok (mapper.clocks_on m n))) ≡ true
     go true b = refl
     go false true = refl
     go false false = timed_on m n ∙ t
 
 -- so the next mapper's bytes are what is left
-pub put_timed : (s : List ℕ) (m : Mapper) (n : ℕ) {next : Mapper} {t : List ℕ} → moved.To next ≡ mapper.advance_of m n → timed m ≡ true
+pub put_timed : (s : List ℕ) (m : Mapper) (n : ℕ) {next : Mapper} {t : List ℕ} → Ok next ≡ mapper.advance_of m n → timed m ≡ true
     → t ≡ encode_of (cart_in s next) → t ≡ advance_state s (from_mapper (cart_in s m) (mapper.advance_of m n))
 put_timed s m n {next} e h p =
     p ∙ ap (λ (b : Bool). pick b (encode_of (cart_in s next)) s) (sym (timed_after m n e h))
-    ∙ ap (λ (x : declared.Advanced). advance_state s (from_mapper (cart_in s m) x)) e
+    ∙ ap (λ (x : Result Mapper AdvanceRefusal). advance_state s (from_mapper (cart_in s m) x)) e
 
 -- without one an advance of a fit cartridge is accepted
 untimed_late : (m : Mapper) (n : ℕ) → timed m ≡ false → mapper.late m n ≡ false
@@ -203,34 +197,34 @@ untimed_late (Mbc3 m) n e = ap (λ (b : Bool). both b (late m.clock n)) e
 untimed_late (Mbc5 m) n e = refl
 
 pub untimed_taken : (c : Cartridge) (n : ℕ) → fit_cart c ≡ true → timed c.mapper ≡ false
-    → advance_of c n ≡ To (with_mapper c (mapper.clocks_on c.mapper n))
+    → advance_of c n ≡ Ok (with_mapper c (mapper.clocks_on c.mapper n))
 unfolding advance_of
 untimed_taken c n f e =
-    ap (λ (b : Bool). first_no Refuse (no (not b) advance.Unfit ∷ no (mapper.late c.mapper n) advance.Late ∷ [])
-    (To (with_mapper c (mapper.clocks_on c.mapper n)))) f
-    ∙ ap (λ (b : Bool). first_no Refuse (no b advance.Late ∷ []) (To (with_mapper c (mapper.clocks_on c.mapper n))))
+    ap (λ (b : Bool). first_no Err (no (not b) advance.Unfit ∷ no (mapper.late c.mapper n) advance.Late ∷ [])
+    (Ok (with_mapper c (mapper.clocks_on c.mapper n)))) f
+    ∙ ap (λ (b : Bool). first_no Err (no b advance.Late ∷ []) (Ok (with_mapper c (mapper.clocks_on c.mapper n))))
     (untimed_late c.mapper n e)
 
 -- ---- passing clocks
 
 module _ (s : List ℕ) (n : ℕ) {k : ℕ} {f : Bool} (p : k ≡ field_at 1 s 0) (q : f ≡ fit_at s k) where
-  abbrev Clocked : Passed → List ℕ → Type 0
+  abbrev Clocked : Result (Unit {0}) AdvanceRefusal → List ℕ → Type 0
   Clocked r t = (r ≡ passed_of s n) × (t ≡ state_advanced s n)
 
-  pub unfit_clocked : not f ≡ true → Clocked (passed.Refuse advance.Unfit) s
+  pub unfit_clocked : not f ≡ true → Clocked (Err advance.Unfit) s
   unfolding passed_of state_advanced
   unfit_clocked h =
       let x = cart_at s k in (
-        unfit_call s p q (λ c. passed_by (advance_of c n)) (passed.Refuse advance.Unfit) (λ e. ap passed_by (unfit_answer x n e)) h,
+        unfit_call s p q (λ c. passed_by (advance_of c n)) (Err advance.Unfit) (λ e. ap passed_by (unfit_answer x n e)) h,
         unfit_call s p q (λ c. advance_state s (advance_of c n)) s (λ e. ap (advance_state s) (unfit_answer x n e)) h,
       )
 
-  pub fit_still : not f ≡ false → timed (mapper_at s k) ≡ false → Clocked passed.Done s
+  pub fit_still : not f ≡ false → timed (mapper_at s k) ≡ false → Clocked (Ok tt) s
   unfolding passed_of state_advanced
   fit_still h e =
       let c = cart_at s k in
       let t = untimed_taken c n (fit_cart_lem s p q h) e in (
-        sym (ap passed_by t) ∙ fit_call s p q h (λ c. passed_by (advance_of c n)) (passed.Refuse advance.Unfit),
+        sym (ap passed_by t) ∙ fit_call s p q h (λ c. passed_by (advance_of c n)) (Err advance.Unfit),
         sym (ap (advance_state s) t ∙ ap (λ (b : Bool). pick b (encode_of (with_mapper c (mapper.clocks_on c.mapper n))) s)
             (timed_on c.mapper n ∙ e))
             ∙ fit_call s p q h (λ c. advance_state s (advance_of c n)) s,
@@ -242,12 +236,12 @@ module _ (s : List ℕ) (n : ℕ) {k : ℕ} {f : Bool} (p : k ≡ field_at 1 s 0
         ap (λ (i : Mapper). from_mapper (cart_in s i) (mapper.advance_of i n)) g
         ∙ mapper_answer (cart_at s k) n (fit_board_lem (cart_at s k) (fit_cart_lem s p q h))
 
-    pub fit_clocked : {r : Passed} {t : List ℕ}
+    pub fit_clocked : {r : Result (Unit {0}) AdvanceRefusal} {t : List ℕ}
         → (r ≡ passed_by (from_mapper (cart_in s m) (mapper.advance_of m n)))
         × (t ≡ advance_state s (from_mapper (cart_in s m) (mapper.advance_of m n)))
         → Clocked r t
     unfolding passed_of state_advanced
     fit_clocked e = (
-      e.0 ∙ ap passed_by moved_on ∙ fit_call s p q h (λ c. passed_by (advance_of c n)) (passed.Refuse advance.Unfit),
+      e.0 ∙ ap passed_by moved_on ∙ fit_call s p q h (λ c. passed_by (advance_of c n)) (Err advance.Unfit),
       e.1 ∙ ap (advance_state s) moved_on ∙ fit_call s p q h (λ c. advance_state s (advance_of c n)) s,
     )

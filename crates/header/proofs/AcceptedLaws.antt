@@ -1,4 +1,5 @@
 -- The verdict taken apart: what was refused and by which test, and what an accepted image is.
+use Rattle.std.specs.Prelude.{Ok, Err}
 use mathlib.Core.Bool.{true, false}
 use mathlib.Core.List.{List}
 use mathlib.Core.Logic.{◌⊎◌, inl, inr}
@@ -24,20 +25,19 @@ use Rattle.header.specs.Check.{row_of, found_of, rom_length, multicart_of, noes,
 use Rattle.header.specs.Accepted.{tests_of, Fitting}
 use Rattle.header.specs.declared.HeaderRefusal.TheVariants.{TooLong}
 use Rattle.header.specs.declared.Facts.{Facts}
-use Rattle.header.specs.declared.Checked.TheVariants.{Accept, Refuse}
 use Rattle.header.proofs.SizeLaws.{mends_power}
 
 -- ---- a refusal is the first test's that holds, and an accepted image has none
 
-refused_by : (s : List ℕ) (f : First (tests_of s)) → check_of s ≡ Refuse f.test.why
+refused_by : (s : List ℕ) (f : First (tests_of s)) → check_of s ≡ Err f.test.why
 unfolding check_of
-refused_by s f = first_answers Refuse (Accept (facts_of s (row_of (found_of s)))) (tests_of s) f
+refused_by s f = first_answers Err (Ok (facts_of s (row_of (found_of s)))) (tests_of s) f
 
-accepted_if : (s : List ℕ) → any_no (tests_of s) ≡ false → check_of s ≡ Accept (facts_of s (row_of (found_of s)))
+accepted_if : (s : List ℕ) → any_no (tests_of s) ≡ false → check_of s ≡ Ok (facts_of s (row_of (found_of s)))
 unfolding check_of
-accepted_if s n = none_accepts Refuse (Accept (facts_of s (row_of (found_of s)))) (tests_of s) n
+accepted_if s n = none_accepts Err (Ok (facts_of s (row_of (found_of s)))) (tests_of s) n
 
-pub accepted_only : (s : List ℕ) (d : Facts) → check_of s ≡ Accept d
+pub accepted_only : (s : List ℕ) (d : Facts) → check_of s ≡ Ok d
     → (any_no (tests_of s) ≡ false) × (d ≡ facts_of s (row_of (found_of s)))
 accepted_only s d e = go (none_or_first (tests_of s))
   where
@@ -116,5 +116,5 @@ facts_fit s n =
       multi = λ m. let l = multi_length s (row_of (found_of s)).1 m in omega arith;
     }
 
-pub accepted_fits : (s : List ℕ) (d : Facts) → check_of s ≡ Accept d → Fitting s d
+pub accepted_fits : (s : List ℕ) (d : Facts) → check_of s ≡ Ok d → Fitting s d
 accepted_fits s d e = let a = accepted_only s d e in rw a.1 (facts_fit s a.0)

@@ -1,5 +1,6 @@
 -- The verdict looks at the length, at the bytes up to 0x14D, and on an MBC1 image of 0x100000 bytes at three more logos: two
 -- images that agree there get the same verdict.
+use Rattle.std.specs.Prelude.{Option}
 use mathlib.Core.Bool.{Bool, true, false}
 use mathlib.Core.List.{List, [], ◌∷◌}
 use mathlib.Core.Path.{◌≡◌, refl, sym, ap, ap₂, ◌∙◌}
@@ -14,7 +15,7 @@ use Rattle.image.specs.Image.{byte_at, padded_length, logo, stands_at, logo_at, 
 use Rattle.types.specs.Types.{type_of}
 use Rattle.types.specs.declared.Kind.{Kind}
 use Rattle.types.specs.declared.Kind.TheVariants.{NoMapper, Mbc1, Mbc2, Mbc3, Mbc5, Mmm01, Mbc6, Mbc7}
-use Rattle.types.specs.declared.Found.{Found}
+use Rattle.types.specs.declared.TypeRow.{TypeRow}
 use Rattle.header.specs.Accepted.{Agree}
 use Rattle.header.specs.Check.{row_of, found_of, multicart_of, noes, facts_of, check_of}
 
@@ -83,7 +84,7 @@ module _ (s t : List ℕ) (a : Agree s t) where
   pub same_verdict : check_of s ≡ check_of t
   unfolding check_of noes facts_of
   same_verdict =
-      let m = multicart_by (row_of (found_of t)).1 (ap (λ (f : Found). (row_of f).1) same_found) in
+      let m = multicart_by (row_of (found_of t)).1 (ap (λ (f : Option TypeRow). (row_of f).1) same_found) in
       rw (
         same_found,
         same_logo,

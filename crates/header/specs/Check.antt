@@ -1,5 +1,5 @@
 -- The verdict: the first of the numbers 1 to 11 that holds, or what the header says (Order 3, Numbers 1 to 11).
-use Rattle.std.specs.Prelude.{Bool, true, false, not, List, [], ◌∷◌, ℕ, ◌/◌, eqb, ltb, length, drop}
+use Rattle.std.specs.Prelude.{Bool, true, false, not, List, [], ◌∷◌, ℕ, ◌/◌, eqb, ltb, length, drop, Ok, Err, Some, None, Result, Option}
 use Rattle.facts.specs.Choice.{both}
 use Rattle.facts.specs.Refusals.{No, no, first_no}
 use Rattle.utf8.specs.Utf8.{is_utf8}
@@ -9,8 +9,6 @@ use Rattle.header.specs.Size.{rom_fits, ram_size_of}
 use Rattle.types.specs.declared.Kind.{Kind}
 use Rattle.types.specs.declared.Kind.TheVariants.{NoMapper, Mbc1, Mbc2, Mbc3, Mbc5, Mmm01, Mbc6, Mbc7}
 use Rattle.types.specs.declared.TypeRow.{TypeRow}
-use Rattle.types.specs.declared.Found.{Found}
-use Rattle.types.specs.declared.Found.TheVariants.{Row, Unknown}
 use Rattle.header.specs.declared.HeaderRefusal.{HeaderRefusal}
 use Rattle.header.specs.declared.HeaderRefusal.TheVariants.{
   TooLong,
@@ -26,8 +24,6 @@ use Rattle.header.specs.declared.HeaderRefusal.TheVariants.{
   Beyond,
 }
 use Rattle.header.specs.declared.Facts.{Facts}
-use Rattle.header.specs.declared.Checked.{Checked}
-use Rattle.header.specs.declared.Checked.TheVariants.{Accept, Refuse}
 
 abbrev pub number_of : HeaderRefusal → ℕ
 number_of TooLong = 1
@@ -42,13 +38,13 @@ number_of BadChecksum = 9
 number_of Unsupported = 10
 number_of Beyond = 11
 
-abbrev pub is_known : Found → Bool
-is_known (Row r) = true
-is_known Unknown = false
+abbrev pub is_known : Option TypeRow → Bool
+is_known (Some r) = true
+is_known None = false
 
-abbrev pub row_of : Found → TypeRow
-row_of (Row r) = r
-row_of Unknown = no_row
+abbrev pub row_of : Option TypeRow → TypeRow
+row_of (Some r) = r
+row_of None = no_row
 
 -- Header 10, of an MBC1 alone
 abbrev pub multicart_of : List ℕ → Kind → Bool
@@ -72,7 +68,7 @@ abbrev pub size_of : List ℕ → ℕ
 size_of s = ram_size_of (byte_at s 0x149)
 
 -- Header 2: "the type at 0x147"
-abbrev pub found_of : List ℕ → Found
+abbrev pub found_of : List ℕ → Option TypeRow
 found_of s = type_of (byte_at s 0x147)
 
 -- Order 3: "A header is tested for 1 to 11, in the order of the numbers", of an image whose type byte has the row r;
@@ -108,12 +104,12 @@ facts_of s r =
     }
 
 -- the verdict
-unfoldable pub check_of : List ℕ → Checked
-check_of s = let r = row_of (found_of s) in first_no Refuse (noes s r) (Accept (facts_of s r))
+unfoldable pub check_of : List ℕ → Result Facts HeaderRefusal
+check_of s = let r = row_of (found_of s) in first_no Err (noes s r) (Ok (facts_of s r))
 
 -- the verdict from test 5 and from test 9 on
-unfoldable pub sizes_of : List ℕ → TypeRow → Checked
-sizes_of s r = first_no Refuse (drop 4 (noes s r)) (Accept (facts_of s r))
+unfoldable pub sizes_of : List ℕ → TypeRow → Result Facts HeaderRefusal
+sizes_of s r = first_no Err (drop 4 (noes s r)) (Ok (facts_of s r))
 
-unfoldable pub mapper_of : List ℕ → TypeRow → Checked
-mapper_of s r = first_no Refuse (drop 8 (noes s r)) (Accept (facts_of s r))
+unfoldable pub mapper_of : List ℕ → TypeRow → Result Facts HeaderRefusal
+mapper_of s r = first_no Err (drop 8 (noes s r)) (Ok (facts_of s r))

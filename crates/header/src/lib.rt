@@ -9,10 +9,10 @@ ghost use Rattle.header.specs.Check.{number_of, multicart_of, facts_of, check_of
 
 use facts::both;
 use image::byte_at;
-use types::{Found, Kind, TypeRow};
+use types::{Kind, TypeRow};
 
 // Why an image is not mounted, in the order of the tests.
-#[derive(Drop)]
+#[derive(Clone, Copy, Debug, PartialEq, Eq)]
 pub enum HeaderRefusal {
     TooLong,
     BadLogo,
@@ -41,12 +41,6 @@ pub struct Facts {
     pub colour: bool,
     // The title's length: it stands from 0x134 on.
     pub title: usize,
-}
-
-#[derive(Drop)]
-pub enum Checked {
-    Accept(Facts),
-    Refuse(HeaderRefusal),
 }
 
 impl HeaderRefusal {
@@ -139,65 +133,65 @@ fn facts_of(image: &[u8], row: TypeRow, banks: u16, size: usize) -> Facts
 }
 
 // The tests 9 to 11.
-fn check_mapper(image: &[u8], row: TypeRow, len: u32, size: usize) -> Checked
+fn check_mapper(image: &[u8], row: TypeRow, len: u32, size: usize) -> Result<Facts, HeaderRefusal>
     requires { (len ≡ padded_length (length image.now)) × (len ≤ 8388608) × (size ≡ ram_size_of (byte_at image.now 0x149)) }
     ensures { result ≡ mapper_of image.now row }
 {
     let sum = image::checksum(image);
     let named = byte_at(image, 0x14D);
     if sum != named {
-        return Checked::Refuse(HeaderRefusal::BadChecksum);
+        return Err(HeaderRefusal::BadChecksum);
     }
     let kind = row.1;
     if !types::is_supported(kind) {
-        return Checked::Refuse(HeaderRefusal::Unsupported);
+        return Err(HeaderRefusal::Unsupported);
     }
     let banks = len / 0x4000;
     if types::is_beyond(kind, banks, size) {
-        return Checked::Refuse(HeaderRefusal::Beyond);
+        return Err(HeaderRefusal::Beyond);
     }
-    Checked::Accept(facts_of(image, row, banks as u16, size))
+    Ok(facts_of(image, row, banks as u16, size))
 }
 
 // The tests 5 to 11.
-fn check_sizes(image: &[u8], row: TypeRow) -> Checked
+fn check_sizes(image: &[u8], row: TypeRow) -> Result<Facts, HeaderRefusal>
     requires { length image.now ≤ 8388608 }
     ensures { result ≡ sizes_of image.now row }
 {
     let len = image::padded_len(image) as u32;
     let rom = byte_at(image, 0x148);
     if 8 < rom {
-        return Checked::Refuse(HeaderRefusal::BadRomCode);
+        return Err(HeaderRefusal::BadRomCode);
     }
     if !rom_fits(len, rom) {
-        return Checked::Refuse(HeaderRefusal::BadRomSize);
+        return Err(HeaderRefusal::BadRomSize);
     }
     let code = byte_at(image, 0x149);
     if 5 < code {
-        return Checked::Refuse(HeaderRefusal::BadRamCode);
+        return Err(HeaderRefusal::BadRamCode);
     }
     let size = ram_size(code);
     if both(!row.2, 0 < size) {
-        return Checked::Refuse(HeaderRefusal::NeedlessRam);
+        return Err(HeaderRefusal::NeedlessRam);
     }
     check_mapper(image, row, len, size)
 }
 
 // The verdict on an image.
-pub fn check(image: &[u8]) -> Checked
+pub fn check(image: &[u8]) -> Result<Facts, HeaderRefusal>
     ensures { result ≡ check_of image.now }
 {
     if 8_388_608 < image.len() {
-        return Checked::Refuse(HeaderRefusal::TooLong);
+        return Err(HeaderRefusal::TooLong);
     }
     if !image::logo_at(image, 0x104) {
-        return Checked::Refuse(HeaderRefusal::BadLogo);
+        return Err(HeaderRefusal::BadLogo);
     }
     if !utf8::is_utf8(image::title(image)) {
-        return Checked::Refuse(HeaderRefusal::BadTitle);
+        return Err(HeaderRefusal::BadTitle);
     }
-    match types::find(byte_at(image, 0x147)) {
-        Found::Row(row) => check_sizes(image, row),
-        Found::Unknown => Checked::Refuse(HeaderRefusal::BadType),
-    }
+    let Some(row) = types::find(byte_at(image, 0x147)) else {
+        return Err(HeaderRefusal::BadType);
+    };
+    check_sizes(image, row)
 }

@@ -1,5 +1,7 @@
 // Images by a recipe: the logo, a title, the type byte, the ROM and RAM codes, and a checksum that fits.
 
+use super::Codes;
+
 // Place at + i of the image, if it has one.
 fn set_on(image: &mut [u8], at: usize, i: usize, b: u8) {
     if image.len() <= i {
@@ -45,18 +47,17 @@ pub fn fix(image: &mut [u8]) {
     set(image, 0x14D, ((256 - s % 256) % 256) as u8);
 }
 
-// The type byte, the ROM code and the RAM code, in one number.
-pub fn codes(image: &mut [u8], c: u32) {
-    set(image, 0x147, (c / 65536 % 256) as u8);
-    set(image, 0x148, (c / 256 % 256) as u8);
-    set(image, 0x149, (c % 256) as u8);
+pub fn codes(image: &mut [u8], codes: Codes) {
+    set(image, 0x147, codes.type_byte);
+    set(image, 0x148, codes.rom_code);
+    set(image, 0x149, codes.ram_code);
 }
 
 // A header whole. The title ends in a zero.
-pub fn header(image: &mut [u8], title: &[u8], c: u32) {
+pub fn header(image: &mut [u8], title: &[u8], given: Codes) {
     logo(image, 0);
     put(image, 0x134, title);
     set_on(image, 0x134, title.len(), 0);
-    codes(image, c);
+    codes(image, given);
     fix(image);
 }

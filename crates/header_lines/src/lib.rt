@@ -5,9 +5,17 @@
 
 pub mod build;
 
-use header::{Checked, Facts};
+use header::Facts;
 use std::io;
 use types::Kind;
+
+// The three bytes of a header that say what the cartridge is.
+#[derive(Clone, Copy)]
+pub struct Codes {
+    pub type_byte: u8,
+    pub rom_code: u8,
+    pub ram_code: u8,
+}
 
 fn byte(rt: &impl Print, b: u8) -> io::Result<()> {
     rt.write_all(&[b])
@@ -33,8 +41,7 @@ fn kind_number(k: Kind) -> u64 {
 
 fn show_facts(rt: &impl Print, f: Facts) -> io::Result<()> {
     byte(rt, b'A')?;
-    let k = f.kind;
-    field(rt, kind_number(k))?;
+    field(rt, kind_number(f.kind))?;
     field(rt, f.multicart as u64)?;
     field(rt, f.ram as u64)?;
     field(rt, f.battery as u64)?;
@@ -47,8 +54,8 @@ fn show_facts(rt: &impl Print, f: Facts) -> io::Result<()> {
 // The line for an image as it is.
 pub fn show(rt: &impl Print, image: &[u8]) -> io::Result<()> {
     match header::check(image) {
-        Checked::Accept(f) => show_facts(rt, f)?,
-        Checked::Refuse(why) => {
+        Ok(f) => show_facts(rt, f)?,
+        Err(why) => {
             byte(rt, b'N')?;
             field(rt, why.number() as u64)?;
         }
@@ -64,8 +71,8 @@ pub fn cut(rt: &impl Print, image: &[u8], n: usize) -> io::Result<()> {
     Ok(())
 }
 
-// The line for an image that is given a header: a title, and type byte, ROM code and RAM code in one number.
-pub fn made(rt: &impl Print, image: &mut [u8], title: &[u8], codes: u32) -> io::Result<()> {
+// The line for an image that is given a header with this title.
+pub fn made(rt: &impl Print, image: &mut [u8], title: &[u8], codes: Codes) -> io::Result<()> {
     build::header(image, title, codes);
     show(rt, image)
 }

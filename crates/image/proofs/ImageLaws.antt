@@ -1,6 +1,9 @@
--- The checksum's turn, the logo's loop, and the title's loop, over plain variables.
-use Rattle.std.proofs.Common.{◌≡◌, ℕ, suc, ◌+◌, ◌-◌, ◌%◌, ◌<◌, ◌≤◌, Bool, true, false, eqb, List, [], ◌∷◌, ◌++◌, length, get_or, take, drop, sym, refl, ap, ◌∙◌, append_assoc, append-nil, add-zero, add-suc, add-one, arith, length-drop, drop_of_length-le, length-take, get_or-drop, drop-cons, take-suc, le-ltb, lt-ltb, eq-eqb, ne_eqb}
-use lib.Seq.{take-nil}
+-- The checksum's turn, the logo's loop, and the title's end, over plain variables.
+use Rattle.std.proofs.Common.{◌≡◌, ℕ, suc, ◌+◌, ◌-◌, ◌%◌, ◌<◌, ◌≤◌, min, Bool, true, false, not, cond, eqb, ltb, List, [], ◌∷◌, Some, None, length, get_or, take, drop, sym, refl, ap, ◌∙◌, subst, add-zero, add-suc, add-one, arith, length-drop, drop_of_length-le, length-take, drop-cons, le-ltb, lt-ltb, ltb-false, eq-eqb, ne_eqb}
+use Rattle.std.proofs.Math.Numerals.{one-add}
+use Rattle.std.proofs.lemmas.List.{take_min, take-take}
+use Rattle.std.proofs.lemmas.List.Sums.{prefix_len-le-length}
+use Rattle.std.specs.List.{position, position_or_len}
 use Rattle.facts.specs.Choice.{pick, both}
 use Rattle.image.specs.Image.{byte_at, padded_length, logo, stands_at, logo_at, is_multicart, sum_from, checksum_of, up_to_zero, title_of, title_start, place_in, TitleEnd}
 
@@ -18,9 +21,12 @@ pub left_none : (s : List ℕ) → Left s 0 0
 unfolding sum_from
 left_none s = refl
 
-pub left_more : (s : List ℕ) (n e : ℕ) {c b d : ℕ} → Left s c n → b ≡ byte_at s (0x134 + n) → (d + b) % 256 ≡ c → (e + 1) % 256 ≡ d
-    → Left s e (n + 1)
-left_more s n e v p q r = rw sum_more (omega arith)
+pub left_more : (s : List ℕ) (at c : ℕ) {b : ℕ} → 0x134 ≤ at → b < 256 → Left s c (at - 0x134) → b ≡ byte_at s at
+    → Left s (((c + (256 - b)) % 256 + 255) % 256) (at + 1 - 0x134)
+left_more s at c {b} l h v p =
+    let n : at + 1 - 0x134 ≡ at - 0x134 + 1 = omega arith in
+    let x : 0x134 + (at - 0x134) ≡ at = omega arith in
+    rw (n, sum_more, x, ← p) (omega arith)
 
 pub left_all : (s : List ℕ) (c n : ℕ) → c < 256 → n ≡ 25 → Left s c n → c ≡ checksum_of s
 unfolding checksum_of
@@ -58,53 +64,63 @@ logo_whole s a i h v =
 
 -- ---- the title
 
--- the rest of the title from place e on
-abbrev pub rest_from : List ℕ → ℕ → List ℕ
-rest_from s e = up_to_zero (take (323 - e) (drop e s))
+-- how many bytes stand before the first zero
+abbrev pub before_zero : List ℕ → ℕ
+before_zero l = position_or_len (λ x. eqb x 0) l
 
--- what stands before e is the title's, and its rest is the rest from e on
-abbrev pub Before : List ℕ → ℕ → Type 0
-Before s e = title_of s ≡ take (e - 308) (drop 308 s) ++ rest_from s e
+up_to_zero_is : (l : List ℕ) → up_to_zero l ≡ take (before_zero l) l
+unfolding up_to_zero
+up_to_zero_is [] = refl
+up_to_zero_is (x ∷ l) = go (eqb x 0) (up_to_zero_is l)
+  where
+    go : (b : Bool) → up_to_zero l ≡ take (before_zero l) l
+        → pick b [] (x ∷ up_to_zero l) ≡ take (cond (not b) (1 + before_zero l) 0) (x ∷ l)
+    go true e = refl
+    go false e = rw (e, one-add)
 
-pub before_none : (s : List ℕ) → Before s 308
+-- t is what the image has of the title's 15 bytes: the title is what stands in it before the first zero
+ends_at : (s : List ℕ) (end : ℕ) → 308 ≤ length s → end ≡ min (length s) 323
+    → TitleEnd s (308 + before_zero (take (end - 308) (drop 308 s)))
 unfolding title_of
-before_none s = refl
-
--- the rest is empty: the title ends here
-pub ends : (s : List ℕ) (e : ℕ) → 308 ≤ e → e ≤ length s → Before s e → rest_from s e ≡ [] → TitleEnd s e
-ends s e l h v r =
+ends_at s end l e =
+    let d = drop 308 s in
+    let k : length d ≡ length s - 308 = length-drop 308 s in
+    let m : end - 308 ≡ min 15 (length d) = omega arith in
+    let t : take (end - 308) d ≡ take 15 d = rw m (take_min 15 d) in
+    let p = before_zero (take (end - 308) d) in
+    let b : p ≤ length (take (end - 308) d) = prefix_len-le-length _ _ in
+    let h : p ≤ end - 308 = omega (arith, length-take (end - 308) d) in
+    let x : 308 + p - 308 ≡ p = omega arith in
     record {
-      low = l;
-      high = h;
-      part = sym (v ∙ ap (λ (t : List ℕ). take (e - 308) (drop 308 s) ++ t) r ∙ append-nil _);
+      low = omega arith;
+      high = omega arith;
+      part = rw (x, ← t) (sym (up_to_zero_is (take (end - 308) d) ∙ take-take p (end - 308) d h));
     }
 
-pub at_end : (s : List ℕ) (e : ℕ) → length s ≤ e → rest_from s e ≡ []
-unfolding up_to_zero
-at_end s e h = rw drop_of_length-le (rw take-nil)
+-- where the search for a zero finds one, and where it finds none
+pub ends_at_zero : (s : List ℕ) (end n : ℕ) → 308 ≤ length s → end ≡ min (length s) 323
+    → Some n ≡ position (λ x. eqb x 0) (take (end - 308) (drop 308 s)) → TitleEnd s (308 + n)
+ends_at_zero s end n l e q =
+    let p = before_zero (take (end - 308) (drop 308 s)) in
+    subst (λ (k : ℕ). TitleEnd s (308 + k)) (go (ltb p (length (take (end - 308) (drop 308 s)))) p q) (ends_at s end l e)
+  where
+    go : (b : Bool) (p : ℕ) → Some n ≡ cond b (Some p) None → p ≡ n
+    go true p q = cc
+    go false p q = absurd (cc)
 
-pub at_limit : (s : List ℕ) (e : ℕ) → 323 ≤ e → rest_from s e ≡ []
-unfolding up_to_zero
-at_limit s e h = let z : 323 - e ≡ 0 = omega arith in rw z
-
-rest_here : (s : List ℕ) (e : ℕ) → e < 323 → e < length s
-    → rest_from s e ≡ pick (eqb (get_or s e 0) 0) [] (get_or s e 0 ∷ rest_from s (suc e))
-unfolding up_to_zero
-rest_here s e h l =
-    let z : 323 - e ≡ suc (323 - suc e) = omega arith in
-    rw (z, drop-cons s e 0)
-
-pub at_zero : (s : List ℕ) (e : ℕ) → e < 323 → e < length s → get_or s e 0 ≡ 0 → rest_from s e ≡ []
-at_zero s e h l z = rest_here s e h l ∙ rw (eq-eqb (get_or s e 0) 0 z)
-
-pub passes_on : (s : List ℕ) (e : ℕ) → 308 ≤ e → e < 323 → e < length s → Before s e → (get_or s e 0 ≡ 0 → ⊥) → Before s (e + 1)
-passes_on s e k h l v n =
-    let d : e + 1 - 308 ≡ suc (e - 308) = omega arith in
-    let x : 308 + (e - 308) ≡ e = omega arith in
-    let y : e - 308 < length (drop 308 s) = rw length-drop (omega arith) in
-    let r : rest_from s e ≡ get_or s e 0 ∷ rest_from s (suc e) = rest_here s e h l ∙ rw (ne_eqb (get_or s e 0) 0 n) in
-    v ∙ ap (λ (t : List ℕ). take (e - 308) (drop 308 s) ++ t) r
-    ∙ rw (d, take-suc (drop 308 s) (e - 308) 0 y, get_or-drop, x, add-one, append_assoc)
+pub ends_whole : (s : List ℕ) (end : ℕ) → 308 ≤ length s → end ≡ min (length s) 323
+    → None ≡ position (λ x. eqb x 0) (take (end - 308) (drop 308 s)) → TitleEnd s end
+ends_whole s end l e q =
+    let t = take (end - 308) (drop 308 s) in
+    let h : length t ≤ before_zero t = go (ltb (before_zero t) (length t)) refl q in
+    let b : before_zero t ≤ length t = prefix_len-le-length _ _ in
+    let k : length (drop 308 s) ≡ length s - 308 = length-drop 308 s in
+    let x : 308 + before_zero t ≡ end = omega (arith, length-take (end - 308) (drop 308 s)) in
+    subst (TitleEnd s) x (ends_at s end l e)
+  where
+    go : {m n : ℕ} (b : Bool) → ltb m n ≡ b → None ≡ cond b (Some m) None → n ≤ m
+    go true r q = absurd (cc)
+    go false r q = ltb-false _ _ r
 
 pub title_none : (s : List ℕ) → length s < 308 → [] ≡ title_of s
 unfolding title_of up_to_zero

@@ -2,8 +2,8 @@
 // flag and the header's checksum. Nothing is copied, and nothing is read but the bytes asked for.
 #![tactic(auto)]
 
-ghost use Rattle.std.specs.Prelude.{◌≡◌, ◌-◌, ◌<◌, ◌≤◌, length, slice_index};
-ghost use Rattle.image.specs.Image.{byte_at, padded_length, logo, logo_at, is_multicart, checksum_of, TitleEnd, title_of, title_start, place_in, is_colour};
+ghost use Rattle.std.specs.Prelude.{◌≡◌, ◌≤◌, length};
+ghost use Rattle.image.specs.Image.{byte_at, padded_length, logo_at, is_multicart, checksum_of, TitleEnd, title_of, title_start, place_in, is_colour};
 
 use facts::both;
 
@@ -31,26 +31,15 @@ pub fn padded_len(image: &[u8]) -> usize
     (n + 0x3FFF) / 0x4000 * 0x4000
 }
 
-fn logo_byte(i: usize) -> u8
-    requires { i < 48 }
-    ensures { result ≡ slice_index logo i }
-{
-    NINTENDO_LOGO_DATA[i]
-}
-
 // Whether the logo stands at a place of the padded image.
 pub fn logo_at(image: &[u8], at: u32) -> bool
     ensures { result ≡ logo_at image.now at }
 {
     let start = at as usize;
-    let mut i: usize = 0;
-    while i < 48 {
-        let b = byte_at(image, start + i);
-        let l = logo_byte(i);
-        if b != l {
+    for (i, &l) in NINTENDO_LOGO_DATA.iter().enumerate() {
+        if byte_at(image, start + i) != l {
             return false;
         }
-        i += 1;
     }
     true
 }
@@ -72,12 +61,8 @@ pub fn checksum(image: &[u8]) -> u8
     ensures { result ≡ checksum_of image.now }
 {
     let mut c: u8 = 0;
-    let mut i: usize = 0;
-    while i < 25 {
-        let b = byte_at(image, 0x134 + i);
-        let d = std::num::wrapping_sub_u8(c, b);
-        c = std::num::wrapping_sub_u8(d, 1);
-        i += 1;
+    for at in 0x134..0x14D {
+        c = c.wrapping_sub(byte_at(image, at)).wrapping_sub(1);
     }
     c
 }
@@ -89,22 +74,16 @@ pub fn is_colour(image: &[u8]) -> bool
     byte_at(image, 0x143) & 0x80 != 0
 }
 
-// Where the title ends.
+// Where the title ends: before its first zero, or else with its 15 bytes or with the image.
 fn title_end(image: &[u8]) -> usize
     requires { 308 ≤ length image.now }
     ensures { TitleEnd image.now result }
 {
-    let mut e: usize = 0x134;
-    while e < 0x143 {
-        if image.len() <= e {
-            return e;
-        }
-        if image[e] == 0 {
-            return e;
-        }
-        e += 1;
+    let end = image.len().min(0x143);
+    match image[0x134..end].iter().position(|b| *b == 0) {
+        Some(n) => 0x134 + n,
+        None => end,
     }
-    e
 }
 
 // The title: the part of the image from 0x134 on, at most 15 bytes, that ends before the first zero or with the image.

@@ -4,62 +4,80 @@
 
 ghost use Rattle.std.specs.Prelude.{◌≡◌, IfOk, vec_len};
 
-use header_lines::{build, cut, made, show};
+use header_lines::{Codes, build, cut, made, show};
 use std::alloc::{AllocError, Global};
 use std::io;
 
-// Length, type byte, ROM code and RAM code in one number.
-fn sized(rt: &impl Print, image: &mut [u8], c: u64) -> io::Result<()> {
-    let len = (c / 0x1_000000) as usize;
-    if len <= image.len() {
-        made(rt, &mut image[..len], b"SIZE", (c % 0x1_000000) as u32)?;
+fn sized(rt: &impl Print, image: &mut [u8], length: usize, codes: Codes) -> io::Result<()> {
+    if length <= image.len() {
+        made(rt, &mut image[..length], b"SIZE", codes)?;
     }
     Ok(())
 }
 
-// A byte too many; 512 banks: equal, mended by 128, not by 256, beyond MBC3, MBC1, MBC2 and no mapper; a byte less and a single
-// byte in the last bank, padded to as many; 511 banks; 256 banks: equal, mended by 128, by 64, named too large, beyond MBC1 and
-// MBC2; 128 banks and a byte more; six banks; four without a mapper; 16 on MBC2; three banks; and each RAM code on a type with
-// RAM, and code 6.
-const SIZES: [u64; 30] = [
-    0x800001_19_08_00,
-    0x800000_19_08_00,
-    0x800000_19_01_00,
-    0x800000_19_00_00,
-    0x800000_13_08_00,
-    0x800000_03_08_00,
-    0x800000_06_08_00,
-    0x800000_00_08_00,
-    0x7FFFFF_19_08_00,
-    0x7FC001_19_08_00,
-    0x7FC000_19_08_00,
-    0x400000_19_07_00,
-    0x400000_19_00_00,
-    0x400000_19_01_00,
-    0x400000_19_08_00,
-    0x400000_01_07_00,
-    0x400000_05_07_00,
-    0x200000_01_06_00,
-    0x200001_01_06_00,
-    0x18000_01_01_00,
-    0x10000_00_01_00,
-    0x40000_06_03_00,
-    0x8001_13_00_00,
-    0x8000_03_00_00,
-    0x8000_03_00_01,
-    0x8000_03_00_02,
-    0x8000_03_00_03,
-    0x8000_03_00_04,
-    0x8000_03_00_05,
-    0x8000_03_00_06,
+// Length, type byte, ROM code and RAM code.
+const SIZES: [(usize, u8, u8, u8); 30] = [
+    // A byte too many.
+    (0x800001, 0x19, 0x08, 0x00),
+    // 512 banks: equal, mended by 128, not by 256, beyond MBC3, MBC1, MBC2 and no mapper.
+    (0x800000, 0x19, 0x08, 0x00),
+    (0x800000, 0x19, 0x01, 0x00),
+    (0x800000, 0x19, 0x00, 0x00),
+    (0x800000, 0x13, 0x08, 0x00),
+    (0x800000, 0x03, 0x08, 0x00),
+    (0x800000, 0x06, 0x08, 0x00),
+    (0x800000, 0x00, 0x08, 0x00),
+    // A byte less, and a single byte in the last bank, padded to as many.
+    (0x7FFFFF, 0x19, 0x08, 0x00),
+    (0x7FC001, 0x19, 0x08, 0x00),
+    // 511 banks.
+    (0x7FC000, 0x19, 0x08, 0x00),
+    // 256 banks: equal, mended by 128, by 64, named too large, beyond MBC1 and MBC2.
+    (0x400000, 0x19, 0x07, 0x00),
+    (0x400000, 0x19, 0x00, 0x00),
+    (0x400000, 0x19, 0x01, 0x00),
+    (0x400000, 0x19, 0x08, 0x00),
+    (0x400000, 0x01, 0x07, 0x00),
+    (0x400000, 0x05, 0x07, 0x00),
+    // 128 banks, and a byte more.
+    (0x200000, 0x01, 0x06, 0x00),
+    (0x200001, 0x01, 0x06, 0x00),
+    // Six banks.
+    (0x18000, 0x01, 0x01, 0x00),
+    // Four without a mapper.
+    (0x10000, 0x00, 0x01, 0x00),
+    // 16 on MBC2.
+    (0x40000, 0x06, 0x03, 0x00),
+    // Three banks.
+    (0x8001, 0x13, 0x00, 0x00),
+    // Each RAM code on a type with RAM, and code 6.
+    (0x8000, 0x03, 0x00, 0x00),
+    (0x8000, 0x03, 0x00, 0x01),
+    (0x8000, 0x03, 0x00, 0x02),
+    (0x8000, 0x03, 0x00, 0x03),
+    (0x8000, 0x03, 0x00, 0x04),
+    (0x8000, 0x03, 0x00, 0x05),
+    (0x8000, 0x03, 0x00, 0x06),
 ];
 
 fn every_size(rt: &impl Print, image: &mut [u8]) -> io::Result<()> {
-    for size in SIZES {
-        sized(rt, image, size)?;
+    for (length, type_byte, rom_code, ram_code) in SIZES {
+        let codes = Codes {
+            type_byte,
+            rom_code,
+            ram_code,
+        };
+        sized(rt, image, length, codes)?;
     }
     Ok(())
 }
+
+// 64 banks of an MBC1.
+const MULTICART: Codes = Codes {
+    type_byte: 0x01,
+    rom_code: 0x05,
+    ram_code: 0x00,
+};
 
 // The logos of the other quarters, one byte of them broken.
 fn broken(rt: &impl Print, image: &mut [u8], place: usize) -> io::Result<()> {
@@ -67,7 +85,7 @@ fn broken(rt: &impl Print, image: &mut [u8], place: usize) -> io::Result<()> {
     build::logo(image, 2);
     build::logo(image, 3);
     build::set(image, place, 0);
-    sized(rt, image, 0x100000_01_05_00)
+    sized(rt, image, 0x100000, MULTICART)
 }
 
 // Each later quarter broken, none (the byte behind a logo), another kind, a byte less, and a bank less.
@@ -76,9 +94,13 @@ fn quarters(rt: &impl Print, image: &mut [u8]) -> io::Result<()> {
     broken(rt, image, 0x80120)?;
     broken(rt, image, 0xC0133)?;
     broken(rt, image, 0xC0134)?;
-    sized(rt, image, 0x100000_19_05_00)?;
-    sized(rt, image, 0xFFFFF_01_05_00)?;
-    sized(rt, image, 0xFC000_01_05_00)
+    let mbc5 = Codes {
+        type_byte: 0x19,
+        ..MULTICART
+    };
+    sized(rt, image, 0x100000, mbc5)?;
+    sized(rt, image, 0xFFFFF, MULTICART)?;
+    sized(rt, image, 0xFC000, MULTICART)
 }
 
 // A header in which every later test fails too where it can, with the byte too many and without it.

@@ -1,4 +1,5 @@
 -- An advance by the mapper, and the area of an MBC2.
+use Rattle.std.specs.Prelude.{Ok, Err, Result}
 use mathlib.Core.Bool.{Bool, true, false, not}
 use mathlib.Core.List.{[], ◌∷◌}
 use mathlib.Core.Path.{◌≡◌, refl, sym, ap, ◌∙◌}
@@ -11,40 +12,38 @@ use Rattle.facts.specs.Refusals.{no, first_no}
 use Rattle.facts.proofs.ChoiceLaws.{eqb_iff}
 use Rattle.facts.proofs.RefusalLaws.{first_map}
 use Rattle.clock.specs.declared.AdvanceRefusal.TheVariants.{Unfit, Late}
+use Rattle.clock.specs.declared.AdvanceRefusal.{AdvanceRefusal}
 use Rattle.types.specs.Types.{beyond_of}
 use Rattle.types.specs.declared.Kind.{Kind}
 use Rattle.mbc3.specs.Registers as mbc3
 use Rattle.timer.specs.Advance as timer
 use Rattle.mbc3.specs.declared.Mbc3 as declared
-use Rattle.timer.specs.declared.Advanced.TheVariants as timer-answer
 use Rattle.mapper.specs.Mappers.{kind_of, multicart_banks, holds, fit_registers, area_of, bank0, bank_x, bank_at, late, clocks_on, advance_of, from_timer}
 use Rattle.mapper.specs.declared.Mapper.{Mapper}
 use Rattle.mapper.specs.declared.Mapper.TheVariants.{NoMapper, Mbc1, Mbc2, Mbc3, Mbc5}
-use Rattle.mapper.specs.declared.Advanced.{Advanced}
-use Rattle.mapper.specs.declared.Advanced.TheVariants.{To, Refuse}
 
 -- where no clock moves, the answer is whether the registers are fit
 still_answer : (m : Mapper) (n : ℕ) {f : Bool} → f ≡ fit_registers m → late m n ≡ false → clocks_on m n ≡ m
-    → pick f (To m) (Refuse Unfit) ≡ advance_of m n
+    → pick f (Ok m) (Err Unfit) ≡ advance_of m n
 unfolding advance_of
 still_answer m n {f} e l s =
-    go f (late m n) l ∙ ap (λ (t : Bool). first_no Refuse (no (not t) Unfit ∷ no (late m n) Late ∷ []) (To m)) e
-    ∙ ap (λ (x : Mapper). first_no Refuse (no (not (fit_registers m)) Unfit ∷ no (late m n) Late ∷ []) (To x)) (sym s)
+    go f (late m n) l ∙ ap (λ (t : Bool). first_no Err (no (not t) Unfit ∷ no (late m n) Late ∷ []) (Ok m)) e
+    ∙ ap (λ (x : Mapper). first_no Err (no (not (fit_registers m)) Unfit ∷ no (late m n) Late ∷ []) (Ok x)) (sym s)
   where
-    go : (t u : Bool) → u ≡ false → pick t (To m) (Refuse Unfit) ≡ first_no Refuse (no (not t) Unfit ∷ no u Late ∷ []) (To m)
-    go true u q = ap (λ (w : Bool). pick w (Refuse Late) (To m)) (sym q)
+    go : (t u : Bool) → u ≡ false → pick t (Ok m) (Err Unfit) ≡ first_no Err (no (not t) Unfit ∷ no u Late ∷ []) (Ok m)
+    go true u q = ap (λ (w : Bool). pick w (Err Late) (Ok m)) (sym q)
     go false u q = refl
 
 -- the same of a mapper known to be k
-pub still_by : (m : Mapper) (n : ℕ) {k : Mapper} {f : Bool} {r : Advanced} → m ≡ k → late k n ≡ false → clocks_on k n ≡ k
-    → f ≡ fit_registers k → r ≡ pick f (To k) (Refuse Unfit) → r ≡ advance_of m n
+pub still_by : (m : Mapper) (n : ℕ) {k : Mapper} {f : Bool} {r : Result Mapper AdvanceRefusal} → m ≡ k → late k n ≡ false → clocks_on k n ≡ k
+    → f ≡ fit_registers k → r ≡ pick f (Ok k) (Err Unfit) → r ≡ advance_of m n
 still_by m n {k} p l s e q = q ∙ still_answer k n e l s ∙ ap (λ (x : Mapper). advance_of x n) (sym p)
 
 pub timed_answer : (m : declared.Mbc3) (n : ℕ) → from_timer (timer.advance_of m n) ≡ advance_of (Mbc3 m) n
 unfolding advance_of timer.advance_of
 timed_answer m n =
-    first_map from_timer timer-answer.Refuse (no (not (mbc3.fit_registers m)) Unfit ∷ no (timer.late_of m n) Late ∷ [])
-    (timer-answer.To (timer.clocks_on m n))
+    first_map from_timer Err (no (not (mbc3.fit_registers m)) Unfit ∷ no (timer.late_of m n) Late ∷ [])
+    (Ok (timer.clocks_on m n))
 
 pub holds_tested : (m : Mapper) (banks size : ℕ) {t b u : Bool} {k : Kind} → k ≡ kind_of m → b ≡ beyond_of k banks size
     → u ≡ multicart_banks m banks → t ≡ both (not b) u → t ≡ holds m banks size

@@ -1,23 +1,21 @@
 -- What each mapper asks and does, by its kind.
-use Rattle.std.specs.Prelude.{Bool, true, false, not, [], ◌∷◌, ℕ, ◌+◌, eqb, ltb}
+use Rattle.std.specs.Prelude.{Bool, true, false, not, [], ◌∷◌, ℕ, ◌+◌, eqb, ltb, Ok, Err, Result}
 use Rattle.facts.specs.Choice.{pick, both, either}
 use Rattle.facts.specs.Refusals.{no, first_no}
 use Rattle.clock.specs.declared.AdvanceRefusal.TheVariants.{Unfit, Late}
+use Rattle.clock.specs.declared.AdvanceRefusal.{AdvanceRefusal}
 use Rattle.no_mapper.specs.Registers as none
 use Rattle.mbc1.specs.Registers as mbc1
 use Rattle.mbc2.specs.Registers as mbc2
 use Rattle.mbc3.specs.Registers as mbc3
+use Rattle.mbc3.specs.declared.Mbc3 as declared
 use Rattle.timer.specs.Advance as timer
-use Rattle.timer.specs.declared.Advanced as declared
-use Rattle.timer.specs.declared.Advanced.TheVariants as timer-answer
 use Rattle.mbc5.specs.Registers as mbc5
 use Rattle.types.specs.Types.{beyond_of}
 use Rattle.types.specs.declared.Kind.{Kind}
 use Rattle.types.specs.declared.Kind.TheVariants as kind
 use Rattle.mapper.specs.declared.Mapper.{Mapper}
 use Rattle.mapper.specs.declared.Mapper.TheVariants.{NoMapper, Mbc1, Mbc2, Mbc3, Mbc5}
-use Rattle.mapper.specs.declared.Advanced.{Advanced}
-use Rattle.mapper.specs.declared.Advanced.TheVariants.{To, Refuse}
 
 -- the kind whose limits hold; an MBC5's are the same with rumble
 abbrev pub kind_of : Mapper → Kind
@@ -104,10 +102,10 @@ clocks_on (Mbc3 m) n = Mbc3 (timer.clocks_on m n)
 clocks_on (Mbc5 m) n = Mbc5 m
 
 -- Order 5: "An advance asks 13, then 17"
-unfoldable pub advance_of : Mapper → ℕ → Advanced
-advance_of m n = first_no Refuse (no (not (fit_registers m)) Unfit ∷ no (late m n) Late ∷ []) (To (clocks_on m n))
+unfoldable pub advance_of : Mapper → ℕ → Result Mapper AdvanceRefusal
+advance_of m n = first_no Err (no (not (fit_registers m)) Unfit ∷ no (late m n) Late ∷ []) (Ok (clocks_on m n))
 
 -- the timer's answer, as the mapper's
-abbrev pub from_timer : declared.Advanced → Advanced
-from_timer (timer-answer.To m) = To (Mbc3 m)
-from_timer (timer-answer.Refuse w) = Refuse w
+abbrev pub from_timer : Result declared.Mbc3 AdvanceRefusal → Result Mapper AdvanceRefusal
+from_timer (Ok m) = Ok (Mbc3 m)
+from_timer (Err w) = Err w

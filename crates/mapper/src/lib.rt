@@ -1,11 +1,10 @@
 // The mappers as one: an enum over their registers, and each question passed on to the mapper that is in it.
 #![tactic(auto)]
 
-ghost use Rattle.std.specs.Prelude.{true, ◌≡◌, ◌≤◌, eqb};
+ghost use Rattle.std.specs.Prelude.{true, ◌≡◌, ◌≤◌, eqb, Ok, Err};
 ghost use Rattle.mapper.specs.Mappers.{holds, fit_registers, area_of, bank0, bank_x, bank_at, written, bad_selection, advance_of, from_timer, kind_of, multicart_banks};
 ghost use Rattle.facts.specs.Choice.{pick};
 ghost use Rattle.clock.specs.declared.AdvanceRefusal.TheVariants.{Unfit};
-ghost use Rattle.mapper.specs.declared.Advanced.TheVariants.{To, Refuse};
 
 use clock::AdvanceRefusal;
 use facts::{both, either};
@@ -25,29 +24,20 @@ pub enum Mapper {
     Mbc5(Mbc5),
 }
 
-#[derive(Drop)]
-pub enum Advanced {
-    To(Mapper),
-    Refuse(AdvanceRefusal),
-}
-
-fn timed(answer: timer::Advanced) -> Advanced
+fn timed(answer: Result<Mbc3, AdvanceRefusal>) -> Result<Mapper, AdvanceRefusal>
     ensures { result ≡ from_timer answer }
 {
-    match answer {
-        timer::Advanced::To(m) => Advanced::To(Mapper::Mbc3(m)),
-        timer::Advanced::Refuse(why) => Advanced::Refuse(why),
-    }
+    Ok(Mapper::Mbc3(answer?))
 }
 
 // Without a timer nothing moves.
-fn still(mapper: Mapper, fit: bool) -> Advanced
-    ensures { result ≡ pick fit (To mapper) (Refuse Unfit) }
+fn still(mapper: Mapper, fit: bool) -> Result<Mapper, AdvanceRefusal>
+    ensures { result ≡ pick fit (Ok mapper) (Err Unfit) }
 {
     if fit {
-        return Advanced::To(mapper);
+        return Ok(mapper);
     }
-    Advanced::Refuse(AdvanceRefusal::Unfit)
+    Err(AdvanceRefusal::Unfit)
 }
 
 impl Mapper {
@@ -195,11 +185,11 @@ impl Mapper {
     }
 
     // n mapper clocks on. Only a timer moves.
-    pub fn advance(self, n: u64) -> Advanced
+    pub fn advance(self, n: u64) -> Result<Mapper, AdvanceRefusal>
         ensures { result ≡ advance_of self n }
     {
         match self {
-            Mapper::NoMapper(_) => Advanced::To(self),
+            Mapper::NoMapper(_) => Ok(self),
             Mapper::Mbc1(m) => still(self, m.fit()),
             Mapper::Mbc2(m) => still(self, m.fit()),
             Mapper::Mbc3(m) => timed(timer::advance(m, n)),

@@ -1,9 +1,7 @@
 -- MBC1's registers and what they select (Bus 8 to 13).
-use Rattle.std.specs.Prelude.{Bool, false, ℕ, ◌+◌, ◌*◌, ◌%◌, ltb, leb, eqb}
+use Rattle.std.specs.Prelude.{Bool, false, ℕ, ◌+◌, ◌*◌, ◌%◌, ltb, leb, eqb, None, Option}
 use Rattle.facts.specs.Choice.{pick, both}
 use Rattle.banking.specs.Banks.{or_one, from_one, ram_place}
-use Rattle.banking.specs.declared.RamAt.{RamAt}
-use Rattle.banking.specs.declared.RamAt.TheVariants.{NotMapped}
 use Rattle.mbc1.specs.declared.Mbc1.{Mbc1}
 
 abbrev pub mbc1 : Bool → Bool → Bool → ℕ → ℕ → Mbc1
@@ -44,8 +42,8 @@ unfoldable pub ram_bank : Mbc1 → ℕ
 ram_bank m = pick m.mode m.two 0
 
 -- Bus 5: "Where RAM is disabled nothing is mapped"
-unfoldable pub ram_at : Mbc1 → ℕ → ℕ → RamAt
-ram_at m size addr = pick m.enabled (ram_place size (ram_bank m) addr) NotMapped
+unfoldable pub ram_at : Mbc1 → ℕ → ℕ → Option ℕ
+ram_at m size addr = pick m.enabled (ram_place size (ram_bank m) addr) None
 
 -- Fit 5: "the low register is 1 to 31, of a multicart 0 to 15; the two-bit register is at most 3"
 unfoldable pub fit_registers : Mbc1 → Bool

@@ -5,7 +5,6 @@
 ghost use Rattle.std.specs.Prelude.{true, ◌≡◌};
 ghost use Rattle.mbc1.specs.Registers.{low_of, start, written, bank0, bank_x, ram_at, fit_registers};
 
-use banking::RamAt;
 use facts::both;
 
 #[derive(Clone, Copy)]
@@ -88,7 +87,7 @@ impl Mbc1 {
     }
 
     // Where an address of the RAM window falls in a RAM area of this size.
-    pub fn ram_at(self, size: usize, addr: u16) -> RamAt
+    pub fn ram_at(self, size: usize, addr: u16) -> Option<usize>
         ensures { result ≡ ram_at self size addr }
     {
         if self.enabled {
@@ -97,7 +96,7 @@ impl Mbc1 {
             }
             return banking::ram_place(size, 0, addr);
         }
-        RamAt::NotMapped
+        None
     }
 
     // Whether the registers are ones that writes can give.

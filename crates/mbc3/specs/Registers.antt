@@ -1,9 +1,7 @@
 -- MBC3's registers and what they select (Bus 16 to 19).
-use Rattle.std.specs.Prelude.{Bool, true, false, not, ℕ, ◌-◌, ◌%◌, ltb, leb, eqb}
+use Rattle.std.specs.Prelude.{Bool, true, false, not, ℕ, ◌-◌, ◌%◌, ltb, leb, eqb, None, Option}
 use Rattle.facts.specs.Choice.{pick, both, either}
 use Rattle.banking.specs.Banks.{or_one, from_one, banked_place}
-use Rattle.banking.specs.declared.RamAt.{RamAt}
-use Rattle.banking.specs.declared.RamAt.TheVariants.{NotMapped}
 use Rattle.clock.specs.Access.{start_at, latched_of}
 use Rattle.clock.specs.Fit.{fit_clock}
 use Rattle.clock.specs.declared.Clock.{Clock}
@@ -74,8 +72,8 @@ abbrev pub bank_x : Mbc3 → ℕ
 bank_x m = m.bank
 
 -- Bus 19: "MBC3's window shows RAM where RAM is selected, and RAM of 0x800 is never mapped"
-unfoldable pub ram_at : Mbc3 → ℕ → ℕ → RamAt
-ram_at m size addr = pick (both m.enabled m.memory) (banked_place size m.ram addr) NotMapped
+unfoldable pub ram_at : Mbc3 → ℕ → ℕ → Option ℕ
+ram_at m size addr = pick (both m.enabled m.memory) (banked_place size m.ram addr) None
 
 -- Fit 7: "the ROM bank is 1 to 255, the RAM bank at most 3; with a timer the selected clock register is at most 4"; Fit 1: "not
 -- looked at. So it is, without a timer, with the clock and which of its registers is selected"

@@ -4,7 +4,6 @@
 ghost use Rattle.std.specs.Prelude.{◌≡◌};
 ghost use Rattle.mbc3.specs.Registers.{start, selectable, bad_selection, selected, latched, written, bank0, bank_x, ram_at, fit_registers};
 
-use banking::RamAt;
 use clock::Clock;
 use facts::both;
 
@@ -122,13 +121,13 @@ impl Mbc3 {
     }
 
     // Where an address of the RAM window falls in a RAM area of this size. 2 KiB are never mapped.
-    pub fn ram_at(self, size: usize, addr: u16) -> RamAt
+    pub fn ram_at(self, size: usize, addr: u16) -> Option<usize>
         ensures { result ≡ ram_at self size addr }
     {
         if both(self.enabled, self.memory) {
             return banking::banked_place(size, self.ram, addr);
         }
-        RamAt::NotMapped
+        None
     }
 
     // Whether the registers are ones that writes can give. Without a timer neither the clock is looked at nor which register is selected.

@@ -1,9 +1,7 @@
 -- MBC5's registers and what they select (Bus 20).
-use Rattle.std.specs.Prelude.{Bool, false, ℕ, ◌+◌, ◌*◌, ◌/◌, ◌%◌, ltb, leb, eqb}
+use Rattle.std.specs.Prelude.{Bool, false, ℕ, ◌+◌, ◌*◌, ◌/◌, ◌%◌, ltb, leb, eqb, None, Option}
 use Rattle.facts.specs.Choice.{pick, both}
 use Rattle.banking.specs.Banks.{ram_place}
-use Rattle.banking.specs.declared.RamAt.{RamAt}
-use Rattle.banking.specs.declared.RamAt.TheVariants.{NotMapped}
 use Rattle.mbc5.specs.declared.Mbc5.{Mbc5}
 
 abbrev pub mbc5 : Bool → ℕ → ℕ → Mbc5
@@ -31,8 +29,8 @@ abbrev pub bank_x : Mbc5 → ℕ
 bank_x m = m.bank
 
 -- Bus 5: "Where RAM is disabled nothing is mapped"
-unfoldable pub ram_at : Mbc5 → ℕ → ℕ → RamAt
-ram_at m size addr = pick m.enabled (ram_place size m.ram addr) NotMapped
+unfoldable pub ram_at : Mbc5 → ℕ → ℕ → Option ℕ
+ram_at m size addr = pick m.enabled (ram_place size m.ram addr) None
 
 -- Fit 8: "the ROM bank is at most 511, the RAM bank at most 15"
 unfoldable pub fit_registers : Mbc5 → Bool

@@ -4,7 +4,6 @@
 ghost use Rattle.std.specs.Prelude.{◌≡◌};
 ghost use Rattle.mbc5.specs.Registers.{start, written, bank0, bank_x, ram_at, fit_registers};
 
-use banking::RamAt;
 use facts::both;
 
 #[derive(Clone, Copy)]
@@ -67,13 +66,13 @@ impl Mbc5 {
     }
 
     // Where an address of the RAM window falls in a RAM area of this size.
-    pub fn ram_at(self, size: usize, addr: u16) -> RamAt
+    pub fn ram_at(self, size: usize, addr: u16) -> Option<usize>
         ensures { result ≡ ram_at self size addr }
     {
         if self.enabled {
             return banking::ram_place(size, self.ram, addr);
         }
-        RamAt::NotMapped
+        None
     }
 
     // Whether the registers are ones that writes can give.

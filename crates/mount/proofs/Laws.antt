@@ -1,4 +1,5 @@
 -- The answer by the header's verdict and the area's length.
+use Rattle.std.specs.Prelude.{Ok, Err, Result}
 use mathlib.Core.Bool.{Bool}
 use mathlib.Core.List.{List}
 use mathlib.Core.Path.{◌≡◌, refl, sym, ap, ◌∙◌}
@@ -12,39 +13,37 @@ use Rattle.types.specs.declared.Kind.TheVariants as kind
 use Rattle.header.specs.Size.{ram_sizes}
 use Rattle.header.specs.Check.{check_of}
 use Rattle.header.specs.declared.Facts.{Facts}
-use Rattle.header.specs.declared.Checked.{Checked}
-use Rattle.header.specs.declared.Checked.TheVariants.{Accept}
 use Rattle.header.proofs.AcceptedLaws.{accepted_fits}
+use Rattle.header.specs.declared.HeaderRefusal.{HeaderRefusal}
 use Rattle.mapper.specs.Mappers as mapper
 use Rattle.cartridge.specs.Fit.{area_of}
 use Rattle.cartridge.specs.declared.Cartridge.{Cartridge}
 use Rattle.mount.specs.Mount.{start_of, cart_of, area_in, asked_by, area_for, mount_by, mount_of, area_by, area_after}
 use Rattle.mount.specs.declared.MountRefusal.TheVariants.{WrongArea}
-use Rattle.mount.specs.declared.Mounted.{Mounted}
-use Rattle.mount.specs.declared.Mounted.TheVariants.{To, Refuse}
+use Rattle.mount.specs.declared.MountRefusal.{MountRefusal}
 
 pub by_area : (d : Facts) (n area wall : ℕ) {c : Cartridge} {t b : Bool} → c ≡ cart_of d n wall → t ≡ eqb area (area_of c)
-    → t ≡ b → pick b (To c) (Refuse WrongArea) ≡ mount_by (Accept d) n area wall
+    → t ≡ b → pick b (Ok c) (Err WrongArea) ≡ mount_by (Ok d) n area wall
 by_area d n area wall {c} p q r =
-    ap (λ (x : Bool). pick x (To c) (Refuse WrongArea)) (sym r ∙ q)
-    ∙ ap (λ (x : Cartridge). pick (eqb area (area_of x)) (To x) (Refuse WrongArea)) p
+    ap (λ (x : Bool). pick x (Ok c) (Err WrongArea)) (sym r ∙ q)
+    ∙ ap (λ (x : Cartridge). pick (eqb area (area_of x)) (Ok x) (Err WrongArea)) p
 
 module _ (image ram : List ℕ) (wall : ℕ) where
-  pub by_check : {k u : Checked} → k ≡ check_of image → k ≡ u
+  pub by_check : {k u : Result Facts HeaderRefusal} → k ≡ check_of image → k ≡ u
       → mount_by u (length image) (length ram) wall ≡ mount_of image ram wall
   unfolding mount_of
-  by_check e g = ap (λ (x : Checked). mount_by x (length image) (length ram) wall) (sym g ∙ e)
+  by_check e g = ap (λ (x : Result Facts HeaderRefusal). mount_by x (length image) (length ram) wall) (sym g ∙ e)
 
-  pub area_by_lem : {x : Mounted} → x ≡ mount_of image ram wall → area_by x ram ≡ area_after image ram wall
+  pub area_by_lem : {x : Result Cartridge MountRefusal} → x ≡ mount_of image ram wall → area_by x ram ≡ area_after image ram wall
   unfolding area_after
-  area_by_lem e = ap (λ (x : Mounted). area_by x ram) e
+  area_by_lem e = ap (λ (x : Result Cartridge MountRefusal). area_by x ram) e
 
 -- ---- the area that is asked for
 
-pub area_small : (image : List ℕ) {d : Facts} → check_of image ≡ Accept d → d.size ≤ 0x20000
+pub area_small : (image : List ℕ) {d : Facts} → check_of image ≡ Ok d → d.size ≤ 0x20000
 area_small image {d} e = one_of_le 0x20000 d.size ram_sizes refl (accepted_fits image d e).sized
 
-pub asked_by_lem : (image : List ℕ) {k u : Checked} → k ≡ check_of image → k ≡ u → asked_by u ≡ area_for image
+pub asked_by_lem : (image : List ℕ) {k u : Result Facts HeaderRefusal} → k ≡ check_of image → k ≡ u → asked_by u ≡ area_for image
 unfolding area_for
 asked_by_lem image e g = ap asked_by (sym g ∙ e)
 

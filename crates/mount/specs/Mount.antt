@@ -1,12 +1,11 @@
 -- Mounting: from an image and a lent RAM area to a cartridge (Order 3, Bus 2, Bus 3).
-use Rattle.std.specs.Prelude.{Bool, false, List, ℕ, eqb, length, replicate}
+use Rattle.std.specs.Prelude.{Bool, false, List, ℕ, eqb, length, replicate, Ok, Err, Result}
 use Rattle.facts.specs.Choice.{pick}
 use Rattle.types.specs.declared.Kind.{Kind}
 use Rattle.types.specs.declared.Kind.TheVariants as kind
 use Rattle.header.specs.Check as header
 use Rattle.header.specs.declared.Facts.{Facts}
-use Rattle.header.specs.declared.Checked.{Checked}
-use Rattle.header.specs.declared.Checked.TheVariants as checked
+use Rattle.header.specs.declared.HeaderRefusal.{HeaderRefusal}
 use Rattle.no_mapper.specs.Registers as none
 use Rattle.mbc1.specs.Registers as mbc1
 use Rattle.mbc2.specs.Registers as mbc2
@@ -19,10 +18,6 @@ use Rattle.cartridge.specs.Fit.{area_of}
 use Rattle.cartridge.specs.declared.Cartridge.{Cartridge}
 use Rattle.mount.specs.declared.MountRefusal.{MountRefusal}
 use Rattle.mount.specs.declared.MountRefusal.TheVariants.{Header, WrongArea}
-use Rattle.mount.specs.declared.Area.{Area}
-use Rattle.mount.specs.declared.Area.TheVariants as area
-use Rattle.mount.specs.declared.Mounted.{Mounted}
-use Rattle.mount.specs.declared.Mounted.TheVariants.{To, Refuse}
 
 abbrev pub number_of : MountRefusal → ℕ
 number_of (Header w) = header.number_of w
@@ -54,26 +49,26 @@ cart_of d n wall =
 abbrev pub area_in : Kind → ℕ → ℕ
 area_in k size = mapper.area_of (start_of k false 0) size
 
-abbrev pub asked_by : Checked → Area
-asked_by (checked.Accept d) = area.Bytes (area_in d.kind d.size)
-asked_by (checked.Refuse w) = area.Refuse w
+abbrev pub asked_by : Result Facts HeaderRefusal → Result ℕ HeaderRefusal
+asked_by (Ok d) = Ok (area_in d.kind d.size)
+asked_by (Err w) = Err w
 
-unfoldable pub area_for : List ℕ → Area
+unfoldable pub area_for : List ℕ → Result ℕ HeaderRefusal
 area_for image = asked_by (header.check_of image)
 
 -- Order 3: "A header is tested for 1 to 11 .. a mounting goes on to 12"; Numbers 12: "the lent RAM area is not as long as the cartridge asks"
-abbrev pub mount_by : Checked → ℕ → ℕ → ℕ → Mounted
-mount_by (checked.Accept d) n area wall = pick (eqb area (area_of (cart_of d n wall))) (To (cart_of d n wall)) (Refuse WrongArea)
-mount_by (checked.Refuse w) n area wall = Refuse (Header w)
+abbrev pub mount_by : Result Facts HeaderRefusal → ℕ → ℕ → ℕ → Result Cartridge MountRefusal
+mount_by (Ok d) n area wall = pick (eqb area (area_of (cart_of d n wall))) (Ok (cart_of d n wall)) (Err WrongArea)
+mount_by (Err w) n area wall = Err (Header w)
 
-unfoldable pub mount_of : List ℕ → List ℕ → ℕ → Mounted
+unfoldable pub mount_of : List ℕ → List ℕ → ℕ → Result Cartridge MountRefusal
 mount_of image ram wall = mount_by (header.check_of image) (length image) (length ram) wall
 
 -- Bus 2: "An accepted mounting makes every byte of the RAM area 0"; Order 1: "every byte that was lent stay as they were",
 -- where it is refused
-abbrev pub area_by : Mounted → List ℕ → List ℕ
-area_by (To c) ram = replicate (length ram) 0
-area_by (Refuse w) ram = ram
+abbrev pub area_by : Result Cartridge MountRefusal → List ℕ → List ℕ
+area_by (Ok c) ram = replicate (length ram) 0
+area_by (Err w) ram = ram
 
 unfoldable pub area_after : List ℕ → List ℕ → ℕ → List ℕ
 area_after image ram wall = area_by (mount_of image ram wall) ram

@@ -1,11 +1,12 @@
 // Mounting: the verdict on an image, the length of the lent RAM area, and the cartridge at its start.
 #![tactic(auto)]
 
-ghost use Rattle.std.specs.Prelude.{◌≡◌, ◌≤◌, length, replicate};
+ghost use Rattle.std.specs.Prelude.{◌≡◌, ◌≤◌};
+ghost use Rattle.mount.specs.declared.MountRefusal.TheVariants.{Header};
 ghost use Rattle.mount.specs.Mount.{number_of, start_of, cart_of, area_in, area_for, mount_of, area_after};
 
 use cartridge::Cartridge;
-use header::{Checked, Facts, HeaderRefusal};
+use header::{Facts, HeaderRefusal};
 use mapper::Mapper;
 use mbc1::Mbc1;
 use mbc2::Mbc2;
@@ -15,23 +16,19 @@ use no_mapper::NoMapper;
 use types::Kind;
 
 // Why an image is not mounted, in the order of the tests.
-#[derive(Drop)]
+#[derive(Clone, Copy, Debug, PartialEq, Eq)]
 pub enum MountRefusal {
     Header(HeaderRefusal),
     WrongArea,
 }
 
-#[derive(Drop)]
-pub enum Mounted {
-    To(Cartridge),
-    Refuse(MountRefusal),
-}
+// A header that is refused refuses the mounting.
+impl From<HeaderRefusal> for MountRefusal {
+    ghost from_gives = { λ why r. r ≡ Header why };
 
-// How long a RAM area an image asks for, or why it is no image.
-#[derive(Drop)]
-pub enum Area {
-    Bytes(usize),
-    Refuse(HeaderRefusal),
+    fn from(why: HeaderRefusal) -> MountRefusal {
+        MountRefusal::Header(why)
+    }
 }
 
 impl MountRefusal {
@@ -70,17 +67,12 @@ pub fn area_of(kind: Kind, size: usize) -> usize
     mapper.area(size)
 }
 
-// The length of the RAM area that mounting this image asks for.
-pub fn ask_area(image: &[u8]) -> Area
+// The length of the RAM area that mounting this image asks for, or why it is no image.
+pub fn ask_area(image: &[u8]) -> Result<usize, HeaderRefusal>
     ensures { result ≡ area_for image.now }
 {
-    match header::check(image) {
-        Checked::Accept(facts) => {
-            let kind = facts.kind;
-            Area::Bytes(area_of(kind, facts.size))
-        }
-        Checked::Refuse(why) => Area::Refuse(why),
-    }
+    let facts = header::check(image)?;
+    Ok(area_of(facts.kind, facts.size))
 }
 
 fn started(facts: Facts, length: usize, wall: u64) -> Cartridge
@@ -96,30 +88,16 @@ fn started(facts: Facts, length: usize, wall: u64) -> Cartridge
     }
 }
 
-fn clear(ram: &mut [u8])
-    ensures { ram.new ≡ replicate (length ram.old) 0 }
-{
-    let mut i: usize = 0;
-    while i < ram.len() {
-        ram[i] = 0;
-        i += 1;
-    }
-}
-
 // Mounts an image. Lent is the RAM area; it is zeroed where the image is mounted, and stays as it is where it is not.
-pub fn mount(image: &[u8], ram: &mut [u8], wall: u64) -> Mounted
+pub fn mount(image: &[u8], ram: &mut [u8], wall: u64) -> Result<Cartridge, MountRefusal>
     ensures value { result ≡ mount_of image.now ram.old wall }
     ensures ram_after { ram.new ≡ area_after image.now ram.old wall }
 {
-    match header::check(image) {
-        Checked::Accept(facts) => {
-            let cart = started(facts, image.len(), wall);
-            if !cart.is_area(ram.len()) {
-                return Mounted::Refuse(MountRefusal::WrongArea);
-            }
-            clear(ram);
-            Mounted::To(cart)
-        }
-        Checked::Refuse(why) => Mounted::Refuse(MountRefusal::Header(why)),
+    let facts = header::check(image)?;
+    let cart = started(facts, image.len(), wall);
+    if !cart.is_area(ram.len()) {
+        return Err(MountRefusal::WrongArea);
     }
+    ram.fill(0);
+    Ok(cart)
 }

@@ -1,7 +1,6 @@
 -- A cartridge with no mapper (Bus 3, Bus 4, Bus 7).
-use Rattle.std.specs.Prelude.{Bool, true, ℕ}
+use Rattle.std.specs.Prelude.{Bool, true, ℕ, Option}
 use Rattle.banking.specs.Banks.{ram_place}
-use Rattle.banking.specs.declared.RamAt.{RamAt}
 use Rattle.no_mapper.specs.declared.NoMapper.{NoMapper}
 
 abbrev pub start : NoMapper
@@ -20,7 +19,7 @@ abbrev pub bank_x : NoMapper → ℕ
 bank_x m = 1
 
 -- Bus 3: "Without a mapper RAM is always enabled"; Bus 5: "Without a mapper that is bank 0"
-abbrev pub ram_at : NoMapper → ℕ → ℕ → RamAt
+abbrev pub ram_at : NoMapper → ℕ → ℕ → Option ℕ
 ram_at m size addr = ram_place size 0 addr
 
 -- no register that could be unfit

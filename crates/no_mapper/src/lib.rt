@@ -4,8 +4,6 @@
 ghost use Rattle.std.specs.Prelude.{◌≡◌};
 ghost use Rattle.no_mapper.specs.Registers.{start, written, bank0, bank_x, ram_at, fit_registers};
 
-use banking::RamAt;
-
 #[derive(Clone, Copy)]
 pub struct NoMapper {}
 
@@ -38,7 +36,7 @@ impl NoMapper {
     }
 
     // Where an address of the RAM window falls in a RAM area of this size.
-    pub fn ram_at(self, size: usize, addr: u16) -> RamAt
+    pub fn ram_at(self, size: usize, addr: u16) -> Option<usize>
         ensures { result ≡ ram_at self size addr }
     {
         banking::ram_place(size, 0, addr)

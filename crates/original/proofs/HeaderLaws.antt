@@ -1,4 +1,5 @@
 -- Each part of `from_file`, on our padded image: it does not panic, and tests what we test.
+use Rattle.std.specs.Prelude.{Some, None, Option as Maybe}
 use mathlib.Core.Bool.{Bool, true, false, not}
 use mathlib.Core.List.{List, [], ◌∷◌, map}
 use mathlib.Core.Option.{Option, none, some}
@@ -22,8 +23,6 @@ use Rattle.types.specs.Types.{types, find_row, type_of}
 use Rattle.types.specs.declared.Kind.{Kind}
 use Rattle.types.specs.declared.Kind.TheVariants as kind
 use Rattle.types.specs.declared.TypeRow.{TypeRow}
-use Rattle.types.specs.declared.Found.{Found}
-use Rattle.types.specs.declared.Found.TheVariants.{Row, Unknown}
 use Rattle.header.specs.Size.{rom_size, mends, rom_fits, ram_size_of}
 use Rattle.header.specs.Check.{is_known, row_of, multicart_of, rom_length, found_of}
 use Rattle.header.proofs.SizeLaws.{one_bit}
@@ -107,17 +106,17 @@ same_table : arms ≡ map arm_of types
 unfolding arms types
 same_table = refl
 
-abbrev type_found : Found → Option CartridgeType
-type_found (Row r) = some (arm_of r).gives
-type_found Unknown = none
+abbrev type_found : Maybe TypeRow → Option CartridgeType
+type_found (Some r) = some (arm_of r).gives
+type_found None = none
 
 first_found : (rows : List TypeRow) (b : ℕ) → first_arm (map arm_of rows) b ≡ type_found (find_row rows b)
 unfolding first_arm find_row
 first_found [] b = refl
 first_found (r ∷ rows) b = go (eqb r.0 b) (find_row rows b) (first_found rows b)
   where
-    go : (t : Bool) (y : Found) {x : Option CartridgeType} → x ≡ type_found y
-        → pick t (some (arm_of r).gives) x ≡ type_found (pick t (Row r) y)
+    go : (t : Bool) (y : Maybe TypeRow) {x : Option CartridgeType} → x ≡ type_found y
+        → pick t (some (arm_of r).gives) x ≡ type_found (pick t (Some r) y)
     go true y e = refl
     go false y e = e
 
@@ -205,10 +204,10 @@ module _ (s : List ℕ) where
       f : Option CartridgeType → Outcome Result
       f x = ok_or x InvalidCartridgeType (λ type. bind (update_mbc1_multicart type (padded s)) rest)
 
-      go : (x : Found) → f (type_found x) ≡ pick (not (is_known x)) (ok (error InvalidCartridgeType)) (rest (type_of_row (row_of x)))
-      go (Row r) =
+      go : (x : Maybe TypeRow) → f (type_found x) ≡ pick (not (is_known x)) (ok (error InvalidCartridgeType)) (rest (type_of_row (row_of x)))
+      go (Some r) =
           ap (λ (y : Outcome MapperType). bind (bind y (λ m. ok (cartridge_type m r.2 r.3))) rest) (updated r.1)
-      go Unknown = refl
+      go None = refl
 
 -- ---- 5 and 6: the ROM size and its mending
 

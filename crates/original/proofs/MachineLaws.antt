@@ -1,4 +1,5 @@
 -- What the machine's expressions come to where they do not panic, and the places of the banks.
+use Rattle.std.specs.Prelude.{Some, None, Option}
 use mathlib.Core.Bool.{Bool, true, false, not}
 use mathlib.Core.List.{List}
 use mathlib.Core.Path.{◌≡◌, refl, sym, ap, ◌∙◌}
@@ -13,8 +14,6 @@ use Rattle.facts.specs.Choice.{pick, both}
 use Rattle.facts.specs.Banking.{place_of}
 use Rattle.facts.proofs.ChoiceLaws.{both_true, both_false}
 use Rattle.banking.specs.Banks.{rom_place, banked_place, ram_place}
-use Rattle.banking.specs.declared.RamAt.{RamAt}
-use Rattle.banking.specs.declared.RamAt.TheVariants as at
 use Rattle.original.specs.Machine.{Outcome, ok, panic, bind, rem, div, index, store, slice, within, as_u8}
 use Rattle.original.specs.MappingResult.{Mapped, mapped, Addr, NotMapped}
 use Rattle.original.specs.Place.{result_of}
@@ -98,7 +97,7 @@ module _ {S : Type 0} (self : S) where
           → pick t (ok (mapped self (Addr (bit_and addr 0x7FF)))) rest
           ≡ ok (mapped self
           (result_of
-          (pick t (at.At (addr % 0x800)) (pick u at.NotMapped (at.At (bank % (size / 0x2000) * 0x2000 + addr % 0x2000))))))
+          (pick t (Some (addr % 0x800)) (pick u None (Some (bank % (size / 0x2000) * 0x2000 + addr % 0x2000))))))
       go true u e f = ap (λ (x : ℕ). ok (mapped self (Addr x))) (and_mask addr 11)
       go false true e f =
           let l = ltb-true size 0x2000 f in
@@ -121,7 +120,7 @@ module _ {S : Type 0} (self : S) where
           ∙ ap (λ (x : ℕ). ok (mapped self (Addr (bank % (size / 0x2000) * 0x2000 + x)))) (and_mask addr 13)
 
   -- mapped only where it is enabled
-  pub ram_enabled : (t : Bool) (p : RamAt) {x : Outcome (Mapped S)} → x ≡ ok (mapped self (result_of p))
-      → pick (not t) (ok (mapped self NotMapped)) x ≡ ok (mapped self (result_of (pick t p at.NotMapped)))
+  pub ram_enabled : (t : Bool) (p : Option ℕ) {x : Outcome (Mapped S)} → x ≡ ok (mapped self (result_of p))
+      → pick (not t) (ok (mapped self NotMapped)) x ≡ ok (mapped self (result_of (pick t p None)))
   ram_enabled true p e = e
   ram_enabled false p e = refl

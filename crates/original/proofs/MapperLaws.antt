@@ -1,5 +1,6 @@
 -- Each question to a mapper, of the original's state that goes with ours: the same place, byte and area, and no panic. What is
 -- known of the accesses before, and what the domain asks of this one, matter to MBC3's clock alone.
+use Rattle.std.specs.Prelude.{Some, None, Option}
 use mathlib.Core.Bool.{Bool, true, false, not}
 use mathlib.Core.List.{List}
 use mathlib.Core.Path.{◌≡◌, refl, sym, ap, ◌∙◌, subst}
@@ -12,8 +13,6 @@ use Rattle.facts.proofs.ChoiceLaws.{both_left, not_true}
 use Rattle.facts.proofs.ListLaws.{one_of_le}
 use Rattle.bytes_le.proofs.OctetLaws.{octets_drop}
 use Rattle.banking.specs.Banks.{Inside, rom_place, ram_place}
-use Rattle.banking.specs.declared.RamAt.{RamAt}
-use Rattle.banking.specs.declared.RamAt.TheVariants as at
 use Rattle.banking.proofs.Laws.{ram_inside}
 use Rattle.types.specs.Types.{supported_of, beyond_of}
 use Rattle.header.specs.Size.{ram_sizes}
@@ -191,25 +190,25 @@ pub record WriteSame (banks size : ℕ) (area : List ℕ) (past : Since) (m : Ma
   pub same : SameMapper banks size (window.area_after m size area addr byte) past (window.mapper_after m size addr byte) next
 
 -- a place within the area
-module _ (p : RamAt) (size : ℕ) (area : List ℕ) (long : length area ≡ size) (inside : Inside p size) where
+module _ (p : Option ℕ) (size : ℕ) (area : List ℕ) (long : length area ≡ size) (inside : Inside p size) where
   whole : take size area ≡ area
   whole = take_all size area (omega (arith, long))
 
   pub bytes_read : read_at (take size area) (result_of p) ≡ ok (window.loaded area p)
   bytes_read = ap (λ (x : List ℕ). read_at x (result_of p)) whole ∙ go p inside
     where
-      go : (q : RamAt) → Inside q size → read_at area (result_of q) ≡ ok (window.loaded area q)
-      go (at.At i) h = index_ok area i (omega (arith, long))
-      go at.NotMapped h = refl
+      go : (q : Option ℕ) → Inside q size → read_at area (result_of q) ≡ ok (window.loaded area q)
+      go (Some i) h = index_ok area i (omega (arith, long))
+      go None h = refl
 
   pub bytes_write : (byte : ℕ) → write_at (take size area) (result_of p) byte ≡ ok (take size (window.stored area p byte))
   bytes_write byte = ap (λ (x : List ℕ). write_at x (result_of p) byte) whole ∙ go p inside
     where
-      go : (q : RamAt) → Inside q size → write_at area (result_of q) byte ≡ ok (take size (window.stored area q byte))
-      go (at.At i) h =
+      go : (q : Option ℕ) → Inside q size → write_at area (result_of q) byte ≡ ok (take size (window.stored area q byte))
+      go (Some i) h =
           store_ok area i byte (omega (arith, long))
           ∙ ap ok (sym (take_all size (set area i byte) (omega (arith, length-set area i byte, long))))
-      go at.NotMapped h = ap ok (sym whole)
+      go None h = ap ok (sym whole)
 
 -- a value, or nothing mapped
 valued : (ram : List ℕ) (t : Bool) (x : ℕ) → read_at ram (pick t (Value (pick t x 0xFF)) NotMapped) ≡ ok (pick t x 0xFF)
@@ -313,7 +312,7 @@ module _ (banks size : ℕ) (area : List ℕ) (past : Since) (m : declared3.Mbc3
       }
 
 -- a mapper whose window is a place in RAM, and that no access there changes
-module _ (m : Mapper) (o next : original.Mapper) (past : Since) {banks size : ℕ} {area : List ℕ} (addr : ℕ) (p : RamAt)
+module _ (m : Mapper) (o next : original.Mapper) (past : Since) {banks size : ℕ} {area : List ℕ} (addr : ℕ) (p : Option ℕ)
     (long : length area ≡ size)
     (inside : Inside p size)
     (way : window.way_of m size addr ≡ Bytes p) (same : (a : List ℕ) → SameMapper banks size a past m next) where

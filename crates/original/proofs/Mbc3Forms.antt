@@ -1,5 +1,6 @@
 -- The Rust's MBC3 whose registers are ours, method by method: what it does is what its RTC does, and all else is as ours. Nothing is
 -- asked of the RTC.
+use Rattle.std.specs.Prelude.{Some, None}
 use mathlib.Core.Bool.{Bool, true, false, not}
 use mathlib.Core.Path.{◌≡◌, refl, ap, ◌∙◌}
 use Prim.Native.Nat.{ℕ, zero, suc, ◌+◌, ◌-◌, ◌*◌, ◌/◌, ◌%◌, ◌<◌}
@@ -12,7 +13,6 @@ use Rattle.facts.specs.Choice.{pick, both, either}
 use Rattle.facts.proofs.ChoiceLaws.{false≢true, both_parts, pick_has, pick_cases}
 use Rattle.facts.specs.Banking.{place_of}
 use Rattle.banking.specs.Banks.{or_one, rom_place, banked_place}
-use Rattle.banking.specs.declared.RamAt.TheVariants.{At, NotMapped}
 use Rattle.clock.specs.Access.{latched_of}
 use Rattle.mbc3.specs.Registers as ours
 use Rattle.mbc3.specs.declared.Mbc3 as declared
@@ -57,7 +57,7 @@ module _ (banks size : ℕ) (m : declared.Mbc3) (r : RtcRegister) (at : ℕ) whe
     where
       go : (t : Bool) → ltb size 0x2000 ≡ t
           → map_ram (mbc3_of banks size m r) at ≡ ok
-          (result_of (pick t NotMapped (At (m.ram % (size / 0x2000) * 0x2000 + at % 0x2000))))
+          (result_of (pick t None (Some (m.ram % (size / 0x2000) * 0x2000 + at % 0x2000))))
       go true e =
           let h = ltb-true size 0x2000 e in
           let z : size / 0x2000 ≡ 0 = omega arith in
@@ -103,7 +103,7 @@ module _ (banks size : ℕ) (m : declared.Mbc3) (r : RtcRegister) where
       ≡ bind (pick (both t (both e (not f))) (read_register r m.register) (ok (r, 0xFF)))
       (λ x.
       mapped (mbc3_of banks size m x.0)
-      (pick f (result_of (pick (both e f) (banked_place size m.ram at) NotMapped))
+      (pick f (result_of (pick (both e f) (banked_place size m.ram at) None))
       (pick (both t (both e (not f))) (to.Value x.1) to.NotMapped)))
   unfolding self
   read_by_lem at true true true = ram_mapped at
@@ -143,7 +143,7 @@ module _ (banks size : ℕ) (m : declared.Mbc3) (r : RtcRegister) where
       ≡ bind (pick (both t (both e (not f))) (write_register r m.register byte) (ok r))
       (λ x.
       mapped (mbc3_of banks size m x)
-      (pick f (result_of (pick (both e f) (banked_place size m.ram at) NotMapped)) to.NotMapped))
+      (pick f (result_of (pick (both e f) (banked_place size m.ram at) None)) to.NotMapped))
   unfolding self
   write_by_lem at byte true true true = ram_mapped at
   write_by_lem at byte false true true = ram_mapped at

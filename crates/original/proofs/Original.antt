@@ -1,5 +1,6 @@
 -- Demand 2, against the Rust itself: within Original 1 to 3 the transcription in specs/ never panics and gives the same verdict,
 -- byte and RAM, access by access.
+use Rattle.std.specs.Prelude.{Ok, Err}
 use mathlib.Core.List.{List}
 use mathlib.Core.Path.{◌≡◌, ◌∙◌}
 use Prim.Native.Nat.{ℕ, ◌*◌}
@@ -10,7 +11,6 @@ use Rattle.header.specs.Check.{check_of}
 use Rattle.header.specs.declared.HeaderRefusal.{HeaderRefusal}
 use Rattle.header.specs.declared.HeaderRefusal.TheVariants.{Beyond}
 use Rattle.header.specs.declared.Facts.{Facts}
-use Rattle.header.specs.declared.Checked.TheVariants.{Accept, Refuse}
 use Rattle.header.proofs.AcceptedLaws.{accepted_fits}
 use Rattle.bus.specs.Run.{Access, Machine, step_of, Ready}
 use Rattle.runs.specs.Calls.{Octet}
@@ -35,29 +35,29 @@ pub no_panic : (image : List ℕ) (now : ℕ) → ImageInDomain image → from_f
 no_panic image now d = verdict.no_panic image now (same_verdict image now d)
 
 -- takes exactly what we accept, with our facts,
-pub taken_if : (image : List ℕ) (now : ℕ) → ImageInDomain image → (d : Facts) → check_of image ≡ Accept d
+pub taken_if : (image : List ℕ) (now : ℕ) → ImageInDomain image → (d : Facts) → check_of image ≡ Ok d
     → from_file image now ≡ ok (taken (cartridge_of image now d))
 taken_if image now i d = verdict.taken_by image now (same_verdict image now i)
 
 pub taken_only : (image : List ℕ) (now : ℕ) → ImageInDomain image → (o : Cartridge) → from_file image now ≡ ok (taken o)
-    → (d : Facts) × (check_of image ≡ Accept d) × (o ≡ cartridge_of image now d)
+    → (d : Facts) × (check_of image ≡ Ok d) × (o ≡ cartridge_of image now d)
 taken_only image now i o = verdict.taken_only image now (same_verdict image now i)
 
-pub rom_banks : (image : List ℕ) (now : ℕ) (d : Facts) → check_of image ≡ Accept d
+pub rom_banks : (image : List ℕ) (now : ℕ) (d : Facts) → check_of image ≡ Ok d
     → length (cartridge_of image now d).rom ≡ d.banks * 0x4000
 rom_banks image now d e = padded_length_lem image ∙ (accepted_fits image d e).padded
 
 -- and errs exactly where we refuse, with our number.
-pub erred_if : (image : List ℕ) (now : ℕ) → ImageInDomain image → (w : HeaderRefusal) → check_of image ≡ Refuse w
+pub erred_if : (image : List ℕ) (now : ℕ) → ImageInDomain image → (w : HeaderRefusal) → check_of image ≡ Err w
     → (e : CartridgeError) × (from_file image now ≡ ok (error e)) × (number_of e ≡ header.number_of w)
 erred_if image now i w = verdict.erred_by image now (same_verdict image now i)
 
 pub erred_only : (image : List ℕ) (now : ℕ) → ImageInDomain image → (e : CartridgeError) → from_file image now ≡ ok (error e)
-    → (w : HeaderRefusal) × (check_of image ≡ Refuse w) × (number_of e ≡ header.number_of w)
+    → (w : HeaderRefusal) × (check_of image ≡ Err w) × (number_of e ≡ header.number_of w)
 erred_only image now i e = verdict.erred_only image now (same_verdict image now i)
 
 -- Where we refuse with 11 it panics, or it is an MBC1 above 128 banks.
-pub eleven_stops : (image : List ℕ) (now : ℕ) → Octets image → check_of image ≡ Refuse Beyond
+pub eleven_stops : (image : List ℕ) (now : ℕ) → Octets image → check_of image ≡ Err Beyond
     → BeyondGives (header.row_of (header.found_of image)).1 (header.banks_of image) (from_file image now)
 eleven_stops image now o = verdict.beyond_by image now (verdict.all_given image now o)
 

@@ -1,4 +1,5 @@
 -- A cartridge just mounted goes with the one that `from_file` gives.
+use Rattle.std.specs.Prelude.{Result}
 use mathlib.Core.Bool.{Bool}
 use mathlib.Core.List.{List, ◌∷◌}
 use mathlib.Core.Path.{◌≡◌, refl, sym, ap, ◌∙◌, subst}
@@ -18,9 +19,10 @@ use Rattle.mbc3.specs.Registers as our3
 use Rattle.mapper.specs.Mappers as mapper
 use Rattle.cartridge.specs.Fit.{area_of}
 use Rattle.cartridge.specs.declared.Cartridge as our
+use Rattle.cartridge.specs.declared.Cartridge.{Cartridge}
 use Rattle.mount.specs.Mount as mount
 use Rattle.mount.specs.Mount.{start_of, cart_of}
-use Rattle.mount.specs.declared.Mounted.{Mounted}
+use Rattle.mount.specs.declared.MountRefusal.{MountRefusal}
 use Rattle.runs.specs.Limits.{Within}
 use Rattle.runs.specs.Game.{Game}
 use Rattle.runs.proofs.ImageLaws.{within}
@@ -108,7 +110,7 @@ start_same g =
     let limits = within t.facts.kind t.facts.banks t.facts.size fits.supported fits.limit in
     let sized = one_of_le 0x20000 t.facts.size ram_sizes refl fits.sized in
     let area : mount.area_by (mount.mount_of image g.area wall) g.area ≡ zeros (area_of g.cart) =
-    ap (λ (x : Mounted). mount.area_by x g.area) g.mounts ∙ ap zeros t.lent in
+    ap (λ (x : Result Cartridge MountRefusal). mount.area_by x g.area) g.mounts ∙ ap zeros t.lent in
     let given = cartridge_of image wall t.facts in
     record {
       facts = t.facts;

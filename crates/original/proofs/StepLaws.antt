@@ -1,4 +1,5 @@
 -- Access by access: the original does not panic, gives the byte that we give, and its state stays the one that goes with ours.
+use Rattle.std.specs.Prelude.{Ok, Some, None}
 use mathlib.Core.Bool.{Bool, true, false}
 use mathlib.Core.List.{List, ◌++◌}
 use mathlib.Core.Path.{◌≡◌, refl, sym, ap, ◌∙◌, subst}
@@ -13,7 +14,6 @@ use Rattle.facts.proofs.ChoiceLaws.{both_parts, not_true, pick_has}
 use Rattle.facts.proofs.ListLaws.{part_set}
 use Rattle.bytes_le.specs.Little.{Octets}
 use Rattle.bytes_le.proofs.OctetLaws.{octets_set}
-use Rattle.banking.specs.declared.RamAt.TheVariants as at
 use Rattle.image.specs.Image.{padded_length}
 use Rattle.header.specs.Size.{ram_sizes}
 use Rattle.mbc2.specs.Registers as our2
@@ -28,8 +28,8 @@ use Rattle.cartridge.specs.With.{with_mapper}
 use Rattle.cartridge.specs.declared.Cartridge as our
 use Rattle.cartridge.proofs.Laws.{fit_board_lem, fit_registers_lem, fit_banks}
 use Rattle.access.specs.Verdict.{in_rom, in_ram}
-use Rattle.access.specs.declared.Verdict.TheVariants.{Rom, Ram}
 use Rattle.access.proofs.Laws.{ram_bounds}
+use Rattle.access.specs.declared.Target.TheVariants.{Rom, Ram}
 use Rattle.bus.specs.Bus.{rom_byte, read_by, write_by, area_by}
 use Rattle.bus.specs.Run as run
 use Rattle.bus.specs.Run.{Access, Machine, after_read, after_write, step_of, Ready}
@@ -58,8 +58,8 @@ half_octets m size area addr byte o =
 
 way_octets : (w : Way) (size : ℕ) (area : List ℕ) (addr byte : ℕ) → Octets area → byte < 256
     → Octets (window.area_by w size area addr byte)
-way_octets (Bytes (at.At i)) size area addr byte o h = octets_set area i byte o h
-way_octets (Bytes at.NotMapped) size area addr byte o h = o
+way_octets (Bytes (Some i)) size area addr byte o h = octets_set area i byte o h
+way_octets (Bytes None) size area addr byte o h = o
 way_octets (Half m) size area addr byte o h = half_octets m size area addr byte o
 way_octets (Timer m) size area addr byte o h = o
 
@@ -195,7 +195,7 @@ step_same {image} {past} {m} {o} r s (run.reads addr) b d =
   where
     go : (t : Bool) → in_rom addr ≡ t → either t (in_ram addr) ≡ true
         → Stepped image (later m past (run.reads addr)) o (run.reads addr)
-        (after_read m (read_by m.cart image m.area addr (pick t Rom Ram)))
+        (after_read m (read_by m.cart image m.area addr (pick t (Ok Rom) (Ok Ram))))
     go true e v =
         let h : addr ≤ 0x7FFF = leb-true addr 0x7FFF e in
         record {
@@ -214,8 +214,8 @@ step_same {image} {past} {m} {o} r s (run.writes addr byte) b d =
   where
     wrote : Bool → run.Left
     wrote t =
-        after_write m (write_by m.cart addr byte (pick t Rom Ram))
-        (area_by m.cart m.area addr byte (pick t Rom Ram))
+        after_write m (write_by m.cart addr byte (pick t (Ok Rom) (Ok Ram)))
+        (area_by m.cart m.area addr byte (pick t (Ok Rom) (Ok Ram)))
 
     go : (t : Bool) → in_rom addr ≡ t → either t (in_ram addr) ≡ true
         → Allowed m.cart.mapper past (run.writes addr byte) (wrote t).left.cart.mapper

@@ -1,5 +1,6 @@
 -- The verdict: on every image of at most 8 MiB that number 11 does not refuse, `from_file` does not panic, takes what we accept,
 -- with the same facts, and gives the error with our number; on those that 11 refuses it panics, but for MBC1.
+use Rattle.std.specs.Prelude.{Ok, Err, Result as Answer}
 use mathlib.Core.Bool.{Bool, true, false, not}
 use mathlib.Core.List.{List}
 use mathlib.Core.Path.{◌≡◌, refl, sym, ap, ◌∙◌, subst}
@@ -33,8 +34,6 @@ use Rattle.header.specs.declared.HeaderRefusal.TheVariants.{
   Beyond,
 }
 use Rattle.header.specs.declared.Facts.{Facts}
-use Rattle.header.specs.declared.Checked.{Checked}
-use Rattle.header.specs.declared.Checked.TheVariants.{Accept, Refuse}
 use Rattle.runs.specs.Padded.{padded}
 use Rattle.original.specs.Machine.{Outcome, ok, panic, as_u16}
 use Rattle.original.specs.Mapper as original
@@ -49,22 +48,22 @@ use Rattle.original.proofs.HeaderLaws.{logo_part, title_part, device_part, type_
 -- ---- test by test
 
 -- what `from_file` gives for a verdict of ours on any image of bytes
-pub data Given (s : List ℕ) (now : ℕ) : Checked → Outcome Result → Type 0 where
-  same : {c : Checked} {x : Outcome Result} → SameVerdict s now c x → Given s now c x
-  beyond : {x : Outcome Result} → BeyondGives (row_of (found_of s)).1 (banks_of s) x → Given s now (Refuse Beyond) x
-  long : {x : Outcome Result} → 8388608 < length s → Given s now (Refuse TooLong) x
+pub data Given (s : List ℕ) (now : ℕ) : Answer Facts HeaderRefusal → Outcome Result → Type 0 where
+  same : {c : Answer Facts HeaderRefusal} {x : Outcome Result} → SameVerdict s now c x → Given s now c x
+  beyond : {x : Outcome Result} → BeyondGives (row_of (found_of s)).1 (banks_of s) x → Given s now (Err Beyond) x
+  long : {x : Outcome Result} → 8388608 < length s → Given s now (Err TooLong) x
 
 module _ (s : List ℕ) (now : ℕ) where
   abbrev row : TypeRow
   row = row_of (found_of s)
 
-  stage : (t : Bool) (w : HeaderRefusal) (e : CartridgeError) {c : Checked} {x y : Outcome Result}
-      → y ≡ pick t (ok (error e)) x → number_of e ≡ header.number_of w → Given s now c x → Given s now (pick t (Refuse w) c) y
-  stage true w e p n g = subst (Given s now (Refuse w)) (sym p) (same (errs w e n))
+  stage : (t : Bool) (w : HeaderRefusal) (e : CartridgeError) {c : Answer Facts HeaderRefusal} {x y : Outcome Result}
+      → y ≡ pick t (ok (error e)) x → number_of e ≡ header.number_of w → Given s now c x → Given s now (pick t (Err w) c) y
+  stage true w e p n g = subst (Given s now (Err w)) (sym p) (same (errs w e n))
   stage false w e {c} p n g = subst (Given s now c) (sym p) g
 
-  unless_long : (t : Bool) {c : Checked} {y : Outcome Result} → ltb 8388608 (length s) ≡ t
-      → (length s ≤ 8388608 → Given s now c y) → Given s now (pick t (Refuse TooLong) c) y
+  unless_long : (t : Bool) {c : Answer Facts HeaderRefusal} {y : Outcome Result} → ltb 8388608 (length s) ≡ t
+      → (length s ≤ 8388608 → Given s now c y) → Given s now (pick t (Err TooLong) c) y
   unless_long true e g = long (ltb-true 8388608 (length s) e)
   unless_long false e g = g (ltb-false 8388608 (length s) e)
 
@@ -82,8 +81,8 @@ module _ (s : List ℕ) (now : ℕ) where
         ram = replicate (size_of s) 0;
       }))
 
-  abbrev last_tests : Bool → Bool → Checked
-  last_tests supported over = pick (not supported) (Refuse Unsupported) (pick over (Refuse Beyond) (Accept (facts_of s row)))
+  abbrev last_tests : Bool → Bool → Answer Facts HeaderRefusal
+  last_tests supported over = pick (not supported) (Err Unsupported) (pick over (Err Beyond) (Ok (facts_of s row)))
 
   last : length s ≤ 8388608
       → Given s now (last_tests (supported_of row.1) (beyond_of row.1 (banks_of s) (size_of s)))
@@ -104,12 +103,12 @@ module _ (s : List ℕ) (now : ℕ) where
       go : (t u : Bool) → supported_of row.1 ≡ t → beyond_of row.1 (banks_of s) (size_of s) ≡ u
           → Given s now (last_tests t u) (started (banks_of s) (size_of s) now finish row.1 multicart)
       go false u e f =
-          subst (Given s now (Refuse Unsupported))
+          subst (Given s now (Err Unsupported))
           (sym (unsupported (banks_of s) (size_of s) now finish row.1 multicart e))
           (same (errs Unsupported MapperNotImplemented refl))
       go true true e f = beyond (beyond_starts (banks_of s) (size_of s) now finish (λ m. (_, refl)) row.1 multicart f)
       go true false e f =
-          subst (Given s now (Accept (facts_of s row)))
+          subst (Given s now (Ok (facts_of s row)))
           (sym (starts (banks_of s) (size_of s) now finish row.1 multicart e f))
           (same (takes (facts_of s row)))
 
@@ -129,12 +128,12 @@ module _ (s : List ℕ) (now : ℕ) where
 
 -- ---- of an image in the domain it is ours, of one that 11 refuses what lies beyond
 
-abbrev pub NotBeyond : Checked → Type 0
-NotBeyond c = c ≡ Refuse Beyond → ⊥
+abbrev pub NotBeyond : Answer Facts HeaderRefusal → Type 0
+NotBeyond c = c ≡ Err Beyond → ⊥
 
-abbrev refusal_number : Checked → ℕ
-refusal_number (Accept d) = 0
-refusal_number (Refuse w) = header.number_of w
+abbrev refusal_number : Answer Facts HeaderRefusal → ℕ
+refusal_number (Ok d) = 0
+refusal_number (Err w) = header.number_of w
 
 -- no error of the Rust's has number 11
 erred_below : (e : CartridgeError) → number_of e < 11
@@ -149,12 +148,12 @@ erred_below InvalidChecksum = omega arith
 erred_below MapperNotImplemented = omega arith
 
 module _ (s : List ℕ) (now : ℕ) where
-  same_by : {c : Checked} {x : Outcome Result} → Given s now c x → length s ≤ 8388608 → NotBeyond c → SameVerdict s now c x
+  same_by : {c : Answer Facts HeaderRefusal} {x : Outcome Result} → Given s now c x → length s ≤ 8388608 → NotBeyond c → SameVerdict s now c x
   same_by (same v) h b = v
   same_by (beyond g) h b = absurd (b refl)
   same_by (long l) h b = absurd (omega arith)
 
-  pub beyond_by : {c : Checked} {x : Outcome Result} → Given s now c x → c ≡ Refuse Beyond
+  pub beyond_by : {c : Answer Facts HeaderRefusal} {x : Outcome Result} → Given s now c x → c ≡ Err Beyond
       → BeyondGives (row_of (found_of s)).1 (banks_of s) x
   beyond_by (same (takes d)) e = let z : ◌≡◌ {A = ℕ} 0 11 = ap refusal_number e in absurd (omega arith)
   beyond_by (same (errs w f n)) e = let z : header.number_of w ≡ 11 = ap refusal_number e in absurd (omega (arith, n, erred_below f))
@@ -166,30 +165,30 @@ module _ (s : List ℕ) (now : ℕ) where
 
 -- ---- the verdict taken apart: each answer goes with one of ours
 
-pub accepted_inside : {k : Checked} {d : Facts} → k ≡ Accept d → NotBeyond k
+pub accepted_inside : {k : Answer Facts HeaderRefusal} {d : Facts} → k ≡ Ok d → NotBeyond k
 accepted_inside p q = let z : ◌≡◌ {A = ℕ} 0 1 = cc in absurd (omega arith)
 
 module _ (s : List ℕ) (now : ℕ) where
-  pub taken_by : {k : Checked} {x : Outcome Result} {d : Facts} → SameVerdict s now k x → k ≡ Accept d
+  pub taken_by : {k : Answer Facts HeaderRefusal} {x : Outcome Result} {d : Facts} → SameVerdict s now k x → k ≡ Ok d
       → x ≡ ok (taken (cartridge_of s now d))
   taken_by {d = d} (takes y) e = let i : y ≡ d = cc in ap (λ (z : Facts). ok (taken (cartridge_of s now z))) i
   taken_by (errs w e n) q = let z : ◌≡◌ {A = ℕ} 0 1 = cc in absurd (omega arith)
 
-  pub erred_by : {k : Checked} {x : Outcome Result} {w : HeaderRefusal} → SameVerdict s now k x → k ≡ Refuse w
+  pub erred_by : {k : Answer Facts HeaderRefusal} {x : Outcome Result} {w : HeaderRefusal} → SameVerdict s now k x → k ≡ Err w
       → (e : CartridgeError) × (x ≡ ok (error e)) × (number_of e ≡ header.number_of w)
   erred_by (takes d) e = let z : ◌≡◌ {A = ℕ} 0 1 = cc in absurd (omega arith)
   erred_by {w = w} (errs v e n) q = let i : v ≡ w = cc in (e, refl, n ∙ ap header.number_of i)
 
-  pub taken_only : {k : Checked} {x : Outcome Result} {o : Cartridge} → SameVerdict s now k x → x ≡ ok (taken o)
-      → (d : Facts) × (k ≡ Accept d) × (o ≡ cartridge_of s now d)
+  pub taken_only : {k : Answer Facts HeaderRefusal} {x : Outcome Result} {o : Cartridge} → SameVerdict s now k x → x ≡ ok (taken o)
+      → (d : Facts) × (k ≡ Ok d) × (o ≡ cartridge_of s now d)
   taken_only (takes d) e = (d, refl, cc)
   taken_only (errs w e n) q = let z : ◌≡◌ {A = ℕ} 0 1 = cc in absurd (omega arith)
 
-  pub erred_only : {k : Checked} {x : Outcome Result} {e : CartridgeError} → SameVerdict s now k x → x ≡ ok (error e)
-      → (w : HeaderRefusal) × (k ≡ Refuse w) × (number_of e ≡ header.number_of w)
+  pub erred_only : {k : Answer Facts HeaderRefusal} {x : Outcome Result} {e : CartridgeError} → SameVerdict s now k x → x ≡ ok (error e)
+      → (w : HeaderRefusal) × (k ≡ Err w) × (number_of e ≡ header.number_of w)
   erred_only (takes d) q = let z : ◌≡◌ {A = ℕ} 0 1 = cc in absurd (omega arith)
   erred_only {e = e} (errs w f n) q = let i : e ≡ f = cc in (w, refl, ap number_of i ∙ n)
 
-  pub no_panic : {k : Checked} {x : Outcome Result} → SameVerdict s now k x → x ≡ panic → ⊥
+  pub no_panic : {k : Answer Facts HeaderRefusal} {x : Outcome Result} → SameVerdict s now k x → x ≡ panic → ⊥
   no_panic (takes d) q = let z : ◌≡◌ {A = ℕ} 0 1 = cc in omega arith
   no_panic (errs w e n) q = let z : ◌≡◌ {A = ℕ} 0 1 = cc in omega arith

@@ -1,8 +1,7 @@
 -- The Rust along a game: what it begins with, and what one access leaves.
-use Rattle.std.specs.Prelude.{List, ◌≡◌, ℕ}
+use Rattle.std.specs.Prelude.{List, ◌≡◌, ℕ, Ok}
 use Rattle.header.specs.Check.{check_of}
 use Rattle.header.specs.declared.Facts.{Facts}
-use Rattle.header.specs.declared.Checked.TheVariants.{Accept}
 use Rattle.bus.specs.Run.{Access}
 use Rattle.bus.specs.Run as run
 use Rattle.runs.specs.Game.{Game, mounted_machine}
@@ -16,7 +15,7 @@ use Rattle.original.specs.Verdict.{cartridge_of}
 -- what `from_file` gives for the image of a game, and that it goes with what we mounted
 pub record StartSame (g : Game) : Type 0 where
   pub facts : Facts
-  pub accepted : check_of g.image ≡ Accept facts
+  pub accepted : check_of g.image ≡ Ok facts
   pub is : from_file g.image g.wall ≡ ok (taken (cartridge_of g.image g.wall facts))
   pub same : Same g.image (since 0 0) (mounted_machine g) (cartridge_of g.image g.wall facts)
 

@@ -1,8 +1,7 @@
 -- A place in the RAM, in the original's words.
-use Rattle.banking.specs.declared.RamAt.{RamAt}
-use Rattle.banking.specs.declared.RamAt.TheVariants as at
+use Rattle.std.specs.Prelude.{Some, None, Option, ℕ}
 use Rattle.original.specs.MappingResult.{MappingResult, Addr, NotMapped}
 
-abbrev pub result_of : RamAt → MappingResult
-result_of (at.At i) = Addr i
-result_of at.NotMapped = NotMapped
+abbrev pub result_of : Option ℕ → MappingResult
+result_of (Some i) = Addr i
+result_of None = NotMapped

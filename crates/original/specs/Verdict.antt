@@ -1,5 +1,5 @@
 -- What `from_file` gives for a verdict of ours: the cartridge with the facts that we accept with, or the error with our number.
-use Rattle.std.specs.Prelude.{Bool, List, ◌≡◌, ℕ, ◌≤◌, length, replicate}
+use Rattle.std.specs.Prelude.{Bool, List, ◌≡◌, ℕ, ◌≤◌, length, replicate, Ok, Err, Result as Answer}
 use Rattle.facts.specs.Choice.{pick}
 use Rattle.bytes_le.specs.Little.{Octets}
 use Rattle.image.specs.Image.{title_of}
@@ -9,8 +9,6 @@ use Rattle.header.specs.Check as header
 use Rattle.header.specs.declared.HeaderRefusal.{HeaderRefusal}
 use Rattle.header.specs.declared.HeaderRefusal.TheVariants.{Beyond}
 use Rattle.header.specs.declared.Facts.{Facts}
-use Rattle.header.specs.declared.Checked.{Checked}
-use Rattle.header.specs.declared.Checked.TheVariants.{Accept, Refuse}
 use Rattle.mbc1.specs.Registers as our1
 use Rattle.mbc2.specs.Registers as our2
 use Rattle.mbc5.specs.Registers as our5
@@ -99,9 +97,9 @@ cartridge_of image now d =
 pub record ImageInDomain (image : List ℕ) : Type 0 where
   pub octets : Octets image
   pub short : length image ≤ 8388608
-  pub within : header.check_of image ≡ Refuse Beyond → ⊥
+  pub within : header.check_of image ≡ Err Beyond → ⊥
 
-pub data SameVerdict (image : List ℕ) (now : ℕ) : Checked → Outcome Result → Type 0 where
-  takes : (d : Facts) → SameVerdict image now (Accept d) (ok (taken (cartridge_of image now d)))
-  errs : (w : HeaderRefusal) (e : CartridgeError) → number_of e ≡ header.number_of w → SameVerdict image now (Refuse w)
+pub data SameVerdict (image : List ℕ) (now : ℕ) : Answer Facts HeaderRefusal → Outcome Result → Type 0 where
+  takes : (d : Facts) → SameVerdict image now (Ok d) (ok (taken (cartridge_of image now d)))
+  errs : (w : HeaderRefusal) (e : CartridgeError) → number_of e ≡ header.number_of w → SameVerdict image now (Err w)
       (ok (error e))

@@ -1,4 +1,5 @@
 -- Whole games against the Rust itself: what it reads of a save that we accept, what it answers, and what it writes.
+use Rattle.std.specs.Prelude.{Ok, Err, Result}
 use mathlib.Core.Bool.{Bool, true, false}
 use mathlib.Core.List.{List, []}
 use mathlib.Core.Logic.{◌⊎◌, inl, inr, ◌↔◌}
@@ -17,8 +18,7 @@ use Rattle.clock_block.specs.Waking.{taken_of, block_of}
 use Rattle.clock_block.proofs.BackLaws.{woken_same, kept_time}
 use Rattle.cartridge.specs.declared.Cartridge as our
 use Rattle.save_file.specs.Save.{bytes_of, save_noes, save_of, room_after, room_by}
-use Rattle.save_file.specs.declared.Saved.{Saved}
-use Rattle.save_file.specs.declared.Saved.TheVariants.{Wrote, Refuse}
+use Rattle.save_file.specs.declared.SaveRefusal.{SaveRefusal}
 use Rattle.bus.specs.Run.{Access, Answer, Machine, Ready}
 use Rattle.runs.specs.Game.{Game, Readable, begins}
 use Rattle.runs.specs.Calls.{Calls}
@@ -89,21 +89,21 @@ save_is_ours {g} {file} {accesses} b {n = n} made a h now =
     none_due (suc k) f = absurd (f (λ e. omega arith))
 
 -- Our call's room then begins with the Rust's file.
-abbrev wrote : Saved → Bool
-wrote (Wrote n) = true
-wrote (Refuse w) = false
+abbrev wrote : Result ℕ SaveRefusal → Bool
+wrote (Ok n) = true
+wrote (Err w) = false
 
-wrote_all : (c : our.Cartridge) (ram : List ℕ) (room now k : ℕ) → save_of c ram room now ≡ Wrote k
+wrote_all : (c : our.Cartridge) (ram : List ℕ) (room now k : ℕ) → save_of c ram room now ≡ Ok k
     → length (bytes_of c.mapper ram now) ≡ k
 unfolding save_of
 wrote_all c ram room now k e =
-    let a = Wrote (length (bytes_of c.mapper ram now)) in
-    let none = none_if wrote Refuse (λ w. refl) (save_noes c ram room now) a (ap wrote e) in
-    let is = sym (none_accepts Refuse a (save_noes c ram room now) none) ∙ e in
+    let a = Ok (length (bytes_of c.mapper ram now)) in
+    let none = none_if wrote Err (λ w. refl) (save_noes c ram room now) a (ap wrote e) in
+    let is = sym (none_accepts Err a (save_noes c ram room now) none) ∙ e in
     cc
 
 pub room_is_file : (m : Machine) (o : Cartridge) (now : ℕ) (w : WritesRam m o now) → BlockOurs m now w.behind → (room : List ℕ) (k : ℕ)
-    → save_of m.cart m.area (length room) now ≡ Wrote k
+    → save_of m.cart m.area (length room) now ≡ Ok k
     → save_sram_file o now ≡ ok (take k (room_after m.cart m.area room now))
 unfolding room_after
 room_is_file m o now w same room k e =
@@ -111,7 +111,7 @@ room_is_file m o now w same room k e =
     whole_file m o now w same
     ∙ ap ok
     (sym
-    (ap (λ (x : Saved). take k (room_by b room x)) e
+    (ap (λ (x : Result ℕ SaveRefusal). take k (room_by b room x)) e
     ∙ take_at b (drop k room) k (wrote_all m.cart m.area (length room) now k e)))
 
 -- ---- 3. what is asked of a save that is read

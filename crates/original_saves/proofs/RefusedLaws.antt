@@ -1,4 +1,5 @@
 -- Saves that we refuse, by the number that we give, and what the Rust makes of them.
+use Rattle.std.specs.Prelude.{Err, Result, Option}
 use mathlib.Core.Bool.{Bool, true, false, not}
 use mathlib.Core.List.{List, [], ◌∷◌}
 use mathlib.Core.Logic.{◌⊎◌, inl, inr}
@@ -26,8 +27,6 @@ use Rattle.save_file.specs.Admit.{admit_noes}
 use Rattle.save_file.specs.Load.{load_noes, accepted_of, load_of}
 use Rattle.save_file.specs.declared.SaveRefusal.{SaveRefusal}
 use Rattle.save_file.specs.declared.SaveRefusal.TheVariants.{Unfit, WrongLength, NoBattery, ShortSave, Block, ShortRoom}
-use Rattle.save_file.specs.declared.Loaded.{Loaded}
-use Rattle.save_file.specs.declared.Loaded.TheVariants.{Refuse}
 use Rattle.runs.specs.Game.{Game, mounted_machine, answer_to}
 use Rattle.runs.proofs.RunLaws.{mount_ready}
 use Rattle.original.specs.Machine.{ok, panic, bind, assert}
@@ -60,7 +59,7 @@ Held f l n s y t (Block block.Beyond) = (n ≡ false) × (s ≡ false) × (y ≡
 Held f l n s y t (Block block.Late) = (n ≡ false) × (s ≡ false) × (t ≡ true)
 Held f l n s y t ShortRoom = Unit {0}
 
-held : (f l n s y t : Bool) (a : Loaded) (w : SaveRefusal) → (a ≡ Refuse w → ⊥) → first_no Refuse (six f l n s y t) a ≡ Refuse w
+held : (f l n s y t : Bool) (a : Result (Option our.Cartridge) SaveRefusal) (w : SaveRefusal) → (a ≡ Err w → ⊥) → first_no Err (six f l n s y t) a ≡ Err w
     → Held f l n s y t w
 held true l n s y t a w h e = let q : Unfit ≡ w = cc in subst (Held true l n s y t) q refl
 held false true n s y t a w h e = let q : WrongLength ≡ w = cc in subst (Held false true n s y t) q refl
@@ -72,10 +71,10 @@ held false false false false false true a w h e =
     let q : Block block.Late ≡ w = cc in subst (Held false false false false false true) q (refl, refl, refl)
 held false false false false false false a w h e = absurd (h e)
 
-accepted_one : (c : our.Cartridge) (behind : List ℕ) (wall : ℕ) (w : SaveRefusal) → accepted_of c behind wall ≡ Refuse w → ⊥
+accepted_one : (c : our.Cartridge) (behind : List ℕ) (wall : ℕ) (w : SaveRefusal) → accepted_of c behind wall ≡ Err w → ⊥
 unfolding accepted_of
 accepted_one c behind wall w =
-    pick_has (λ (x : Loaded). x ≡ Refuse w → ⊥) (has_block c.mapper behind) (λ e. false≢true cc) (λ e. false≢true cc)
+    pick_has (λ (x : Result (Option our.Cartridge) SaveRefusal). x ≡ Err w → ⊥) (has_block c.mapper behind) (λ e. false≢true cc) (λ e. false≢true cc)
 
 -- ---- what the Rust makes of them
 
@@ -89,14 +88,14 @@ module _ (g : Game) (save : List ℕ) where
   abbrev has : Bool → Bool
   has t = both (has_block g.cart.mapper stands) t
 
-  given : (w : SaveRefusal) → answer_to (mounted_machine g) save g.wall ≡ Refuse w
+  given : (w : SaveRefusal) → answer_to (mounted_machine g) save g.wall ≡ Err w
       → Held (not (fit_cart g.cart)) (not (eqb area (area_of g.cart))) (not g.cart.battery) (ltb (length save) area)
       (has (beyond (block_in stands))) (has (late (block_in stands) g.wall)) w
   unfolding load_of load_noes admit_noes block_noes
   given w e = held _ _ _ _ _ _ (accepted_of g.cart stands g.wall) w (accepted_one g.cart stands g.wall w) e
 
   -- Numbers 18: "the type has no battery". It reads none
-  pub rust_at_18 : answer_to (mounted_machine g) save g.wall ≡ Refuse NoBattery
+  pub rust_at_18 : answer_to (mounted_machine g) save g.wall ≡ Err NoBattery
       → from_file_with g.image g.wall (some save) ≡ from_file g.image g.wall
   rust_at_18 e = no_battery_unread g (not_true _ (given NoBattery e)) (some save)
 
@@ -106,7 +105,7 @@ module _ (g : Game) (save : List ℕ) where
 
   -- Numbers 19: "the save is shorter than the RAM area". It reads none that is shorter than the header's RAM; of the others, which are
   -- MBC2's, `half_bytes_filled` speaks
-  pub rust_at_19 : answer_to (mounted_machine g) save g.wall ≡ Refuse ShortSave
+  pub rust_at_19 : answer_to (mounted_machine g) save g.wall ≡ Err ShortSave
       → (from_file_with g.image g.wall (some save) ≡ from_file g.image g.wall)
       ⊎ ((k : our2.Mbc2) × (g.cart.mapper ≡ Mbc2 k) × (g.cart.battery ≡ true) × (g.cart.size ≤ length save))
   rust_at_19 e = go g.cart.mapper refl (ltb (length save) g.cart.size) refl
@@ -131,7 +130,7 @@ module _ (g : Game) (save : List ℕ) where
       go (Mbc5 k) p t q = inl (bare p refl)
 
   -- Numbers 17: "the clock's time would pass 2^64 - 1 seconds". It panics
-  pub rust_at_17 : answer_to (mounted_machine g) save g.wall ≡ Refuse (Block block.Late)
+  pub rust_at_17 : answer_to (mounted_machine g) save g.wall ≡ Err (Block block.Late)
       → from_file_with g.image g.wall (some save) ≡ panic
   rust_at_17 e =
       let h = given (Block block.Late) e in

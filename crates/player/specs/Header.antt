@@ -1,12 +1,11 @@
 -- What a header says, as numbers.
-use Rattle.std.specs.Prelude.{Bool, false, List, [], ◌∷◌, ℕ, ◌≤◌}
+use Rattle.std.specs.Prelude.{Bool, false, List, [], ◌∷◌, ℕ, ◌≤◌, Ok, Err, Result}
 use Rattle.facts.specs.Choice.{bit}
 use Rattle.types.specs.declared.Kind.{Kind}
 use Rattle.types.specs.declared.Kind.TheVariants as kind
 use Rattle.header.specs.Check.{number_of, check_of}
 use Rattle.header.specs.declared.Facts.{Facts}
-use Rattle.header.specs.declared.Checked.{Checked}
-use Rattle.header.specs.declared.Checked.TheVariants.{Accept, Refuse}
+use Rattle.header.specs.declared.HeaderRefusal.{HeaderRefusal}
 use Rattle.mount.specs.Mount.{start_of, area_in}
 use Rattle.states.specs.Layout.{kind_of}
 
@@ -57,13 +56,13 @@ facts_of d =
     ∷ 0
     ∷ []
 
-abbrev pub header_by : Checked → ℕ
-header_by (Accept d) = 0
-header_by (Refuse w) = number_of w
+abbrev pub header_by : Result Facts HeaderRefusal → ℕ
+header_by (Ok d) = 0
+header_by (Err w) = number_of w
 
-abbrev pub facts_by : List ℕ → Checked → List ℕ
-facts_by s (Accept d) = facts_of d
-facts_by s (Refuse w) = s
+abbrev pub facts_by : List ℕ → Result Facts HeaderRefusal → List ℕ
+facts_by s (Ok d) = facts_of d
+facts_by s (Err w) = s
 
 unfoldable pub header_of : List ℕ → ℕ
 header_of image = header_by (check_of image)

@@ -1,15 +1,11 @@
 -- The windows as six numbers, and accesses through them.
-use Rattle.std.specs.Prelude.{List, [], ◌∷◌, ℕ, ◌+◌, get_or}
+use Rattle.std.specs.Prelude.{List, [], ◌∷◌, ℕ, ◌+◌, get_or, Ok, Err, Some, None, Result, Option}
 use Rattle.states.specs.Reading.{decode_of}
 use Rattle.windows.specs.Windows.{ask_of}
 use Rattle.windows.specs.Through.{seen_of, put_of, area_after}
 use Rattle.windows.specs.declared.Windows.{Windows}
-use Rattle.windows.specs.declared.Asked.{Asked}
-use Rattle.windows.specs.declared.Asked.TheVariants as asked
-use Rattle.windows.specs.declared.Seen.{Seen}
-use Rattle.windows.specs.declared.Seen.TheVariants as seen
-use Rattle.windows.specs.declared.Put.{Put}
-use Rattle.windows.specs.declared.Put.TheVariants as put
+use Rattle.windows.specs.declared.Miss.{Miss}
+use Rattle.windows.specs.declared.Miss.TheVariants.{BadAddress, Ask}
 use Rattle.states.specs.OnState.{on_state}
 use Rattle.player.specs.Bus.{no_state, refused}
 
@@ -22,13 +18,13 @@ abbrev pub windows_in : List ℕ → Windows
 windows_in s =
     record { rom0 = get_or s 0 0; romx = get_or s 1 0; ram = get_or s 2 0; mask = get_or s 3 0; how = get_or s 4 0 }
 
-abbrev pub asked_number : Asked → ℕ
-asked_number (asked.To w) = 0
-asked_number asked.Unfit = no_state
+abbrev pub asked_number : Option Windows → ℕ
+asked_number (Some w) = 0
+asked_number None = no_state
 
-abbrev pub asked_windows : List ℕ → Asked → List ℕ
-asked_windows s (asked.To w) = numbers_of w
-asked_windows s asked.Unfit = s
+abbrev pub asked_windows : List ℕ → Option Windows → List ℕ
+asked_windows s (Some w) = numbers_of w
+asked_windows s None = s
 
 unfoldable pub windows_number : List ℕ → ℕ
 windows_number s = on_state (λ c. asked_number (ask_of c)) no_state (decode_of s)
@@ -40,15 +36,15 @@ windows_after s numbers = on_state (λ c. asked_windows numbers (ask_of c)) numb
 abbrev pub ask : ℕ
 ask = 0x200
 
-abbrev pub seen_number : Seen → ℕ
-seen_number (seen.Byte b) = b
-seen_number seen.BadAddress = refused + 15
-seen_number seen.Ask = ask
+abbrev pub seen_number : Result ℕ Miss → ℕ
+seen_number (Ok b) = b
+seen_number (Err BadAddress) = refused + 15
+seen_number (Err Ask) = ask
 
-abbrev pub put_number : Put → ℕ
-put_number put.Done = 0
-put_number put.BadAddress = 15
-put_number put.Ask = ask
+abbrev pub put_number : Result (Unit {0}) Miss → ℕ
+put_number (Ok tt) = 0
+put_number (Err BadAddress) = 15
+put_number (Err Ask) = ask
 
 unfoldable pub window_read : List ℕ → List ℕ → List ℕ → ℕ → ℕ
 window_read numbers rom ram addr = seen_number (seen_of (windows_in numbers) rom ram addr)

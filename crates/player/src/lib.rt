@@ -8,17 +8,16 @@ ghost use Rattle.windows.specs.Through.{rom_start};
 ghost use Rattle.flat_write.specs.Calls.{state_written, area_written, state_advanced};
 ghost use Rattle.player.specs.Header.{kind_number, has_timer, has_rumble, Small, facts_of, header_of, facts_after};
 ghost use Rattle.player.specs.Bus.{mount_of, state_mounted, read_number, read_of, write_of, advance_of};
-ghost use Rattle.player.specs.Save.{room_number, room_size, size_of, size_asked, saved_number, saved_size, save_of, room_saved, size_saved, loaded_number, loaded_state, loaded_clock, load_of, state_loaded, area_loaded, clock_loaded};
+ghost use Rattle.player.specs.Save.{size_number, size_told, size_of, size_asked, save_of, room_saved, size_saved, loaded_number, loaded_state, loaded_clock, load_of, state_loaded, area_loaded, clock_loaded};
 ghost use Rattle.player.specs.Windows.{windows_in, asked_number, asked_windows, windows_number, windows_after, window_read, window_write, area_through};
 
-use bus::ReadAnswer;
-use flat_write::{Passed, Wrote};
-use header::{Checked, Facts};
-use mount::Mounted;
-use save_file::{Loaded, Room, Saved};
-use states::Decoded;
+use access::BusRefusal;
+use cartridge::Cartridge;
+use header::Facts;
+use save_file::SaveRefusal;
+use states::Kept;
 use types::Kind;
-use windows::{Asked, Put, Seen, Windows};
+use windows::{Miss, Windows};
 
 // Added to the number where a call's answer is a byte.
 const REFUSED: u32 = 0x100;
@@ -33,7 +32,7 @@ const ASK: u32 = 0x200;
 fn kind_number(kind: Kind, multicart: bool) -> u32
     ensures { result ≡ kind_number kind multicart }
 {
-    states::kind_of(mount::start(kind, multicart, 0)) as u32
+    mount::start(kind, multicart, 0).kind() as u32
 }
 
 fn has_timer(kind: Kind) -> bool
@@ -98,11 +97,11 @@ pub fn imf_header(image: &[u8], facts: &mut [u32; 12]) -> u32
     ensures facts_after { facts.new ≡ facts_after image.now facts.old }
 {
     match header::check(image) {
-        Checked::Accept(found) => {
+        Ok(found) => {
             *facts = facts_of(found);
             0
         }
-        Checked::Refuse(why) => why.number() as u32,
+        Err(why) => why.number() as u32,
     }
 }
 
@@ -113,20 +112,20 @@ pub fn imf_mount(state: &mut [u8; 64], image: &[u8], ram: &mut [u8], wall: u64) 
     ensures ram_after { ram.new ≡ mounting.area_after image.now ram.old wall }
 {
     match mount::mount(image, ram, wall) {
-        Mounted::To(cart) => {
+        Ok(cart) => {
             states::encode(cart, state);
             0
         }
-        Mounted::Refuse(why) => why.number() as u32,
+        Err(why) => why.number() as u32,
     }
 }
 
-fn read_number(answer: ReadAnswer) -> u32
+fn read_number(answer: Result<u8, BusRefusal>) -> u32
     ensures { result ≡ read_number answer }
 {
     match answer {
-        ReadAnswer::Byte(b) => b as u32,
-        ReadAnswer::Refuse(why) => REFUSED + (why.number() as u32),
+        Ok(b) => b as u32,
+        Err(why) => REFUSED + (why.number() as u32),
     }
 }
 
@@ -144,8 +143,8 @@ pub fn imf_write(state: &mut [u8; 64], ram: &mut [u8], addr: u16, byte: u8) -> u
     ensures ram_after { ram.new ≡ area_written state.old ram.old addr byte }
 {
     match flat_write::write(state, ram, addr, byte) {
-        Wrote::Done => 0,
-        Wrote::Refuse(why) => why.number() as u32,
+        Ok(()) => 0,
+        Err(why) => why.number() as u32,
     }
 }
 
@@ -155,21 +154,22 @@ pub fn imf_advance(state: &mut [u8; 64], n: u64) -> u32
     ensures state_after { state.new ≡ state_advanced state.old n }
 {
     match flat_write::advance(state, n) {
-        Passed::Done => 0,
-        Passed::Refuse(why) => why.number() as u32,
+        Ok(()) => 0,
+        Err(why) => why.number() as u32,
     }
 }
 
-fn take_room(size: &mut u64, answer: Room) -> u32
-    ensures value { result ≡ room_number answer }
-    ensures size_after { size.new ≡ room_size size.old answer }
+// A size told where it is answered: that of the room asked for, or of the save written.
+fn take_size(size: &mut u64, answer: Result<usize, SaveRefusal>) -> u32
+    ensures value { result ≡ size_number answer }
+    ensures size_after { size.new ≡ size_told size.old answer }
 {
     match answer {
-        Room::Bytes(n) => {
-            *size = n as u64;
+        Ok(bytes) => {
+            *size = bytes as u64;
             0
         }
-        Room::Refuse(why) => why.number() as u32,
+        Err(why) => why.number() as u32,
     }
 }
 
@@ -179,21 +179,8 @@ pub fn imf_save_size(state: &[u8; 64], size: &mut u64) -> u32
     ensures size_after { size.new ≡ size_asked state.now size.old }
 {
     match states::decode(state) {
-        Decoded::To(cart) => take_room(size, save_file::ask_room(cart)),
-        Decoded::NoState => NO_STATE,
-    }
-}
-
-fn take_saved(size: &mut u64, answer: Saved) -> u32
-    ensures value { result ≡ saved_number answer }
-    ensures size_after { size.new ≡ saved_size size.old answer }
-{
-    match answer {
-        Saved::Wrote(n) => {
-            *size = n as u64;
-            0
-        }
-        Saved::Refuse(why) => why.number() as u32,
+        Some(cart) => take_size(size, save_file::ask_room(cart)),
+        None => NO_STATE,
     }
 }
 
@@ -204,27 +191,33 @@ pub fn imf_save_out(state: &[u8; 64], ram: &[u8], room: &mut [u8], wall: u64, si
     ensures size_after { size.new ≡ size_saved state.now ram.now (length room.old) wall size.old }
 {
     match states::decode(state) {
-        Decoded::To(cart) => take_saved(size, save_file::save(cart, ram, room, wall)),
-        Decoded::NoState => NO_STATE,
+        Some(cart) => take_size(size, save_file::save(cart, ram, room, wall)),
+        None => NO_STATE,
     }
 }
 
-fn take_loaded(state: &mut [u8; 64], clock: &mut u32, answer: Loaded) -> u32
+fn take_loaded(
+    state: &mut [u8; 64],
+    clock: &mut u32,
+    answer: Result<Option<Cartridge>, SaveRefusal>,
+) -> u32
     ensures value { result ≡ loaded_number answer }
     ensures state_after { state.new ≡ loaded_state state.old answer }
     ensures clock_after { clock.new ≡ loaded_clock clock.old answer }
 {
     match answer {
-        Loaded::Whole(next) => {
-            states::encode(next, state);
-            *clock = 1;
-            0
-        }
-        Loaded::RamOnly => {
-            *clock = 0;
-            0
-        }
-        Loaded::Refuse(why) => why.number() as u32,
+        Ok(woken) => match woken {
+            Some(next) => {
+                states::encode(next, state);
+                *clock = 1;
+                0
+            }
+            None => {
+                *clock = 0;
+                0
+            }
+        },
+        Err(why) => why.number() as u32,
     }
 }
 
@@ -242,22 +235,20 @@ pub fn imf_save_in(
     ensures clock_after { clock.new ≡ clock_loaded state.old (length ram.old) save.now wall clock.old }
 {
     match states::decode(state) {
-        Decoded::To(cart) => take_loaded(state, clock, save_file::load(cart, ram, save, wall)),
-        Decoded::NoState => NO_STATE,
+        Some(cart) => take_loaded(state, clock, save_file::load(cart, ram, save, wall)),
+        None => NO_STATE,
     }
 }
 
-fn take_windows(windows: &mut [u32; 6], answer: Asked) -> u32
+fn take_windows(windows: &mut [u32; 6], answer: Option<Windows>) -> u32
     ensures value { result ≡ asked_number answer }
     ensures windows_after { windows.new ≡ asked_windows windows.old answer }
 {
-    match answer {
-        Asked::To(w) => {
-            *windows = [w.rom0, w.romx, w.ram, w.mask, w.how, 0];
-            0
-        }
-        Asked::Unfit => NO_STATE,
-    }
+    let Some(w) = answer else {
+        return NO_STATE;
+    };
+    *windows = [w.rom0, w.romx, w.ram, w.mask, w.how, 0];
+    0
 }
 
 // Where the windows stand now: the places that 0x0000, 0x4000 and 0xA000 show, the mask of the last, and how it is mapped.
@@ -298,9 +289,9 @@ pub fn imf_window_read(windows: &[u32; 6], image: &[u8], ram: &[u8], addr: u16) 
         return windows::rom_byte(image, rom_start(windows, addr), addr) as u32;
     }
     match windows::read(windows_in(windows), image, ram, addr) {
-        Seen::Byte(b) => b as u32,
-        Seen::BadAddress => REFUSED + 15,
-        Seen::Ask => ASK,
+        Ok(b) => b as u32,
+        Err(Miss::BadAddress) => REFUSED + 15,
+        Err(Miss::Ask) => ASK,
     }
 }
 
@@ -310,8 +301,8 @@ pub fn imf_window_write(windows: &[u32; 6], ram: &mut [u8], addr: u16, byte: u8)
     ensures ram_after { ram.new ≡ area_through windows.now ram.old addr byte }
 {
     match windows::write(windows_in(windows), ram, addr, byte) {
-        Put::Done => 0,
-        Put::BadAddress => 15,
-        Put::Ask => ASK,
+        Ok(()) => 0,
+        Err(Miss::BadAddress) => 15,
+        Err(Miss::Ask) => ASK,
     }
 }

@@ -1,4 +1,5 @@
 -- The bench table, Bench 1 to 8, as one statement over its eight rows.
+use Rattle.std.specs.Prelude.{Ok}
 use mathlib.Core.Bool.{Bool, true, false}
 use mathlib.Core.Path.{◌≡◌, refl, sym, ap}
 use Prim.Native.Nat.{ℕ, ◌+◌, ◌%◌, ◌<◌, ◌≤◌}
@@ -12,7 +13,6 @@ use Rattle.clock_registers.specs.Seconds.{second_on, seconds_on}
 use Rattle.clock_registers.specs.declared.Registers.{Registers}
 use Rattle.clock.specs.Fit.{fit_clock}
 use Rattle.clock.specs.Ticking.{moving, tick, ticks, advance_of}
-use Rattle.clock.specs.declared.Advanced.TheVariants.{To}
 use Rattle.clock.proofs.AnswerLaws.{taken_answer}
 use Rattle.mbc1.specs.Registers as mbc1
 use Rattle.mbc1.specs.declared.Mbc1 as declared
@@ -29,7 +29,7 @@ stored m addr e l h = simp (le-ltb addr 0x2000 l, lt-ltb addr 0x4000 h, e)
 -- a row of whole seconds, from what its seconds come to
 in_seconds : (r q : Registers) (k x : ℕ) → r.halt ≡ false → seconds_on k r ≡ q
     → (t : ℕ) (l : Bool) (f : Registers) → fit_clock (clock_of r x t l f) ≡ true → t + k ≤ 18446744073709551615
-    → advance_of (clock_of r x t l f) (seconds_of k) ≡ To (clock_of q x (t + k) l f)
+    → advance_of (clock_of r x t l f) (seconds_of k) ≡ Ok (clock_of q x (t + k) l f)
 in_seconds r q k x h e t l f g m = taken_seconds (clock_of r x t l f) k g h m e
 
 pub bench : (d h m s x : ℕ) (c : Bool) → All (rows d h m s x c)

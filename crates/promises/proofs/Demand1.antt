@@ -5,6 +5,7 @@
 -- ones in `Exported`), and for a clock's advance, the 21 bytes of a save, the trace's reader and the replay program. The calls of
 -- `PublicCalls` speak of definitions (`check_of`, `mount_of`, ..): the contracts say that the code's answers, and every lent byte,
 -- equal these on all inputs.
+use Rattle.std.specs.Prelude.{Ok, Err, Some, Result, Option}
 use mathlib.Core.Bool.{true, false}
 use mathlib.Core.List.{List, [], ◌∷◌}
 use mathlib.Core.Logic.{◌⊎◌, inl, inr, ◌↔◌}
@@ -29,7 +30,6 @@ use Rattle.header.specs.Check.{check_of}
 use Rattle.header.specs.Accepted.{tests_of}
 use Rattle.header.specs.declared.HeaderRefusal.TheVariants.{TooLong}
 use Rattle.header.specs.declared.Facts.{Facts}
-use Rattle.header.specs.declared.Checked.TheVariants as checked
 use Rattle.header.proofs.CheckLaws.{no_1}
 use Rattle.mapper.specs.Mappers as mapper
 use Rattle.window.specs.Window.{way_of, Within}
@@ -37,29 +37,21 @@ use Rattle.window.proofs.Laws.{way_within}
 use Rattle.cartridge.specs.Fit.{fit_cart, area_of}
 use Rattle.cartridge.specs.declared.Cartridge.{Cartridge}
 use Rattle.cartridge.proofs.Laws.{fit_banks, fit_padded}
-use Rattle.save_file.specs.declared.Room.TheVariants as room
 use Rattle.save_file.specs.Admit.{admit_noes}
 use Rattle.save_file.specs.Save.{bytes_of, save_noes, save_of, room_by, room_after, room_for}
 use Rattle.save_file.specs.Load as load
 use Rattle.save_file.specs.Load.{load_noes, accepted_of, load_of}
-use Rattle.save_file.specs.declared.Saved.TheVariants as saved
-use Rattle.save_file.specs.declared.Loaded.TheVariants as loaded
 use Rattle.mount.specs.Mount as mount
 use Rattle.mount.specs.Mount.{cart_of, mount_of}
-use Rattle.mount.specs.declared.Area.TheVariants as area
-use Rattle.mount.specs.declared.Mounted.{Mounted}
-use Rattle.mount.specs.declared.Mounted.TheVariants as mounted
+use Rattle.mount.specs.declared.MountRefusal.{MountRefusal}
 use Rattle.access.specs.Verdict.{in_rom, noes, verdict_of}
-use Rattle.access.specs.declared.Verdict.TheVariants.{Rom, Ram, Refuse}
+use Rattle.access.specs.declared.Target.TheVariants.{Rom, Ram}
 use Rattle.bus.specs.Bus.{read_verdict, write_verdict, read_by, read_of, write_by, write_of}
 use Rattle.bus.specs.Advance.{advance_of}
 use Rattle.bus.specs.Run.{Access, Machine, step_of, run_of, Ready}
 use Rattle.bus.specs.Run as run
-use Rattle.bus.specs.declared.WriteAnswer.TheVariants as write
-use Rattle.bus.specs.declared.Advanced.TheVariants as advanced
 use Rattle.replay_step.specs.Step.{machine}
 use Rattle.replay_program.specs.Written.{not_read, file_line, written_of, ram_after}
-use Rattle.replay_program.specs.declared.File.{File}
 use Rattle.replay_program.proofs.Apart.{one_refusal, text_is_no_refusal}
 use Rattle.replay_program.proofs.Theorems.{file_exactly, file_keeps, refused_keeps}
 use Rattle.runs.specs.Calls.{Octets, AllNeither}
@@ -116,7 +108,7 @@ check_refuses image =
 pub ask_area_refuses : (image : List ℕ) → Refusing (1 ∷ 2 ∷ 3 ∷ 4 ∷ 5 ∷ 6 ∷ 7 ∷ 8 ∷ 9 ∷ 10 ∷ 11 ∷ []) (asking image)
 unfolding mount.area_for check_of header.noes
 ask_area_refuses image =
-    by_first (asking image) (first_map mount.asked_by checked.Refuse (tests_of image) (checked.Accept (facts_in image)))
+    by_first (asking image) (first_map mount.asked_by Err (tests_of image) (Ok (facts_in image)))
     (λ v w e. cc) (λ w e. cc) refl (λ w e. refl)
 
 -- `mount::mount`, of any image, any lent RAM area and any wall time. Order 3: "a mounting goes on to 12"
@@ -125,7 +117,7 @@ pub mount_refuses : (image ram : List ℕ) (wall : ℕ)
 unfolding mount_noes header.noes mount.area_after
 mount_refuses image ram wall =
     by_first (mounting image ram wall) (mount_is_first image ram wall) (λ v w e. cc) (λ w e. cc) refl
-    (λ w e. ap (λ (x : Mounted). mount.area_by x ram) e)
+    (λ w e. ap (λ (x : Result Cartridge MountRefusal). mount.area_by x ram) e)
 
 -- `bus::read` and `bus::write`, of any cartridge, any lent image and area, any address and any byte. Order 4: "A read asks 13, 14, 15, a
 -- write 13, 14, 15, 16, in this order.": of a read 16 never holds.
@@ -133,14 +125,14 @@ pub read_refuses : (c : Cartridge) (rom ram : List ℕ) (addr : ℕ) → Refusin
 unfolding read_of read_verdict verdict_of noes
 read_refuses c rom ram addr =
     by_first (reading c rom ram addr)
-    (first_map (read_by c rom ram addr) Refuse (reading c rom ram addr).tests (pick (in_rom addr) Rom Ram))
+    (first_map (read_by c rom ram addr) Err (reading c rom ram addr).tests (pick (in_rom addr) (Ok Rom) (Ok Ram)))
     (λ v w e. cc) (read_taken c rom ram addr) refl (λ w e. refl)
 
 pub write_refuses : (c : Cartridge) (ram : List ℕ) (addr byte : ℕ) → Refusing (13 ∷ 14 ∷ 15 ∷ 16 ∷ []) (writing c ram addr byte)
 unfolding write_of write_verdict verdict_of noes
 write_refuses c ram addr byte =
     by_first (writing c ram addr byte)
-    (first_map (write_by c addr byte) Refuse (writing c ram addr byte).tests (pick (in_rom addr) Rom Ram))
+    (first_map (write_by c addr byte) Err (writing c ram addr byte).tests (pick (in_rom addr) (Ok Rom) (Ok Ram)))
     (λ v w e. cc) (write_taken c addr byte) refl (laws.refused_area c ram addr byte)
 
 -- `bus::advance`, of any cartridge and any count, and `Clock::advance`, of any clock. Order 5: "An advance asks 13, then 17."
@@ -185,13 +177,11 @@ next_record_refuses s at =
 
 -- `replay_program::write`, of any two files. Trace 4: "Where one is missing or longer, which is tested first, all that it writes is `F`",
 -- exactly then, and the room for RAM stays;
-pub replay_files_exactly : (rom : File) (image : List ℕ) (records : File) (s : List ℕ)
-    → (written_of rom image records s ≡ file_line)
-    ↔ (either (not_read rom (length image) 32768) (not_read records (length s) 16384) ≡ true)
+pub replay_files_exactly : (image s : Option (List ℕ))
+    → (written_of image s ≡ file_line) ↔ (either (not_read image 32768) (not_read s 16384) ≡ true)
 replay_files_exactly = file_exactly
 
-pub replay_files_keep : (rom : File) (image : List ℕ) (records : File) (s ram : List ℕ) → written_of rom image records s ≡ file_line
-    → ram_after rom image records s ram ≡ ram
+pub replay_files_keep : (image s : Option (List ℕ)) (ram : List ℕ) → written_of image s ≡ file_line → ram_after image s ram ≡ ram
 replay_files_keep = file_keeps
 
 -- where both were read, Trace 5: "Where mounting is refused, all that it writes is `M` and the number", 12 exactly where the image asks
@@ -205,17 +195,17 @@ replay_refuses image s ram h l r =
     refl (λ w. refused_keeps image s h l ram (mount.number_of w) r)
 
 -- Above 8 MiB it is number 1, whatever stands in the image.
-pub too_long_is_1 : (image : List ℕ) → 8388608 < length image → check_of image ≡ checked.Refuse TooLong
+pub too_long_is_1 : (image : List ℕ) → 8388608 < length image → check_of image ≡ Err TooLong
 too_long_is_1 image h = sym (no_1 image h)
 
 -- An image that is lent the area that `mount::ask_area` asks for is mounted.
-pub asked_area_mounts : (image ram : List ℕ) (wall : ℕ) (d : Facts) → check_of image ≡ checked.Accept d
-    → mount.area_for image ≡ area.Bytes (length ram) → mount_of image ram wall ≡ mounted.To (cart_of d (length image) wall)
+pub asked_area_mounts : (image ram : List ℕ) (wall : ℕ) (d : Facts) → check_of image ≡ Ok d
+    → mount.area_for image ≡ Ok (length ram) → mount_of image ram wall ≡ Ok (cart_of d (length image) wall)
 asked_area_mounts = laws.asked_mounts
 
 -- Where `save_file::ask_room` asks for n bytes, `save_file::save` into a room of n is not refused, and writes n.
-pub asked_room_saves : (c : Cartridge) (ram : List ℕ) (n wall : ℕ) → length ram ≡ area_of c → room_for c ≡ room.Bytes n
-    → save_of c ram n wall ≡ saved.Wrote n
+pub asked_room_saves : (c : Cartridge) (ram : List ℕ) (n wall : ℕ) → length ram ≡ area_of c → room_for c ≡ Ok n
+    → save_of c ram n wall ≡ Ok n
 asked_room_saves = asked_saves
 
 -- 2. Demand 1: "a refused call changes neither the cartridge nor any lent byte": of an access, the cartridge and its area together.
@@ -225,23 +215,23 @@ refused_changes_nothing = sequence.refused_left
 
 -- 3. Number 13 is never given for a state that this library handed out: mounting gives a fit cartridge, and so does every accepted
 -- call,
-pub mounted_is_fit : (image ram : List ℕ) (wall : ℕ) (c : Cartridge) → mount_of image ram wall ≡ mounted.To c → fit_cart c ≡ true
+pub mounted_is_fit : (image ram : List ℕ) (wall : ℕ) (c : Cartridge) → mount_of image ram wall ≡ Ok c → fit_cart c ≡ true
 mounted_is_fit = laws.mount_fit
 
-pub written_is_fit : (c d : Cartridge) (ram : List ℕ) (addr byte : ℕ) → byte < 256 → write_of c ram addr byte ≡ write.Done d
+pub written_is_fit : (c d : Cartridge) (ram : List ℕ) (addr byte : ℕ) → byte < 256 → write_of c ram addr byte ≡ Ok d
     → fit_cart d ≡ true
 written_is_fit = laws.write_fit
 
-pub advanced_is_fit : (c d : Cartridge) (n : ℕ) → advance_of c n ≡ advanced.To d → fit_cart d ≡ true
+pub advanced_is_fit : (c d : Cartridge) (n : ℕ) → advance_of c n ≡ Ok d → fit_cart d ≡ true
 advanced_is_fit = laws.advance_fit
 
-pub loaded_is_fit : (c d : Cartridge) (area : ℕ) (bytes : List ℕ) (wall : ℕ) → load_of c area bytes wall ≡ loaded.Whole d
+pub loaded_is_fit : (c d : Cartridge) (area : ℕ) (bytes : List ℕ) (wall : ℕ) → load_of c area bytes wall ≡ Ok (Some d)
     → fit_cart d ≡ true
 loaded_is_fit = saves.load_fit
 
 -- nor 14 for the image and the area that it was mounted with: on mounting both are as they should be, and they stay so through any
 -- sequence of accesses and a save that is read,
-pub mounted_is_ready : (image ram : List ℕ) (wall : ℕ) (c : Cartridge) → mount_of image ram wall ≡ mounted.To c
+pub mounted_is_ready : (image ram : List ℕ) (wall : ℕ) (c : Cartridge) → mount_of image ram wall ≡ Ok c
     → Ready image (record { cart = c; area = mount.area_after image ram wall })
 mounted_is_ready = sequence.mount_ready
 
@@ -249,7 +239,7 @@ pub stays_ready : (rom : List ℕ) (m : Machine) (as' : List Access) → Ready r
 stays_ready = sequence.run_ready
 
 pub loaded_is_ready : (rom : List ℕ) (m : Machine) (d : Cartridge) (bytes : List ℕ) (wall : ℕ) → Ready rom m
-    → load_of m.cart (length m.area) bytes wall ≡ loaded.Whole d
+    → load_of m.cart (length m.area) bytes wall ≡ Ok (Some d)
     → Ready rom (record { cart = d; area = load.area_after m.cart m.area bytes wall })
 loaded_is_ready = saves.whole_ready
 
@@ -260,13 +250,13 @@ never_13_nor_14 = sequence.run_neither
 
 pub ready_saves : (rom : List ℕ) (m : Machine) (room wall : ℕ) → Ready rom m
     → save_of m.cart m.area room wall
-    ≡ first_no saved.Refuse (drop 2 (save_noes m.cart m.area room wall))
-    (saved.Wrote (length (bytes_of m.cart.mapper m.area wall)))
+    ≡ first_no Err (drop 2 (save_noes m.cart m.area room wall))
+    (Ok (length (bytes_of m.cart.mapper m.area wall)))
 ready_saves rom m room wall r = saves.fit_saves m.cart m.area room wall r.fit r.area
 
 pub ready_loads : (rom : List ℕ) (m : Machine) (bytes : List ℕ) (wall : ℕ) → Ready rom m
     → load_of m.cart (length m.area) bytes wall
-    ≡ first_no loaded.Refuse (drop 2 (load_noes m.cart (length m.area) bytes wall))
+    ≡ first_no Err (drop 2 (load_noes m.cart (length m.area) bytes wall))
     (accepted_of m.cart (drop (length m.area) bytes) wall)
 ready_loads rom m bytes wall r = saves.fit_loads m.cart (length m.area) bytes wall r.fit r.area
 

@@ -2,6 +2,7 @@
 -- 8 MiB and every sequence of accesses, within Original 1 to 4." First what the definitions say, then that the Rust, written down as
 -- definitions in `original`, answers alike. The theorems speak of `check_of`, `mount_of`, `run_of` and what is below them: the contracts
 -- say that the code's answers, and every byte of the lent RAM area, equal these on all inputs.
+use Rattle.std.specs.Prelude.{Ok, Err, Some, Result}
 use mathlib.Core.Bool.{Bool, true, false}
 use mathlib.Core.List.{List}
 use mathlib.Core.Logic.{◌↔◌, ◌⊎◌}
@@ -27,7 +28,6 @@ use Rattle.header.specs.Accepted.{Fitting, Agree}
 use Rattle.header.specs.declared.HeaderRefusal.{HeaderRefusal}
 use Rattle.header.specs.declared.HeaderRefusal.TheVariants.{Beyond}
 use Rattle.header.specs.declared.Facts.{Facts}
-use Rattle.header.specs.declared.Checked.TheVariants.{Accept, Refuse}
 use Rattle.header.proofs.SizeLaws.{mends_power, power_mends}
 use Rattle.header.proofs.AcceptedLaws.{accepted_only, accepted_fits}
 use Rattle.header.proofs.LocalLaws.{same_verdict}
@@ -36,20 +36,16 @@ use Rattle.mbc2.specs.declared.Mbc2.{Mbc2}
 use Rattle.mapper.specs.declared.Mapper.TheVariants as mapper
 use Rattle.battery.specs.Battery.{clock_in, has_clock}
 use Rattle.cartridge.specs.declared.Cartridge.{Cartridge}
-use Rattle.save_file.specs.declared.Saved.TheVariants.{Wrote}
 use Rattle.save_file.specs.Save.{save_of, room_after}
 use Rattle.save_file.specs.declared.SaveRefusal.TheVariants.{NoBattery, ShortSave, Block}
-use Rattle.save_file.specs.declared.Loaded.TheVariants as save-no
 use Rattle.mount.specs.Mount as mount
 use Rattle.mount.specs.Mount.{mount_of}
-use Rattle.mount.specs.declared.Mounted.{Mounted}
-use Rattle.mount.specs.declared.Mounted.TheVariants as mounted
+use Rattle.mount.specs.declared.MountRefusal.{MountRefusal}
 use Rattle.bus.specs.Bus.{area_after}
 use Rattle.bus.specs.Run.{Access, Answer, Machine, step_of, run_of, Ready}
 use Rattle.bus.specs.Run as run
 use Rattle.states.specs.Layout.{encode_of}
 use Rattle.states.specs.Reading.{decode_of}
-use Rattle.states.specs.declared.Decoded.TheVariants as decoded
 use Rattle.player.specs.Header.{facts_of, facts_after}
 use Rattle.player.proofs.imf_header.Reads as imf-header
 use Rattle.player.proofs.imf_mount.Reads as imf-mount
@@ -113,16 +109,16 @@ use Rattle.promises.specs.PublicCalls.{facts_in}
 -- ---- Against the definitions
 
 -- 1. Demand 2: "The verdict on a header". An image is accepted with what its header says and nothing else,
-pub accepted_facts : (s : List ℕ) (d : Facts) → check_of s ≡ Accept d → d ≡ facts_in s
+pub accepted_facts : (s : List ℕ) (d : Facts) → check_of s ≡ Ok d → d ≡ facts_in s
 accepted_facts s d e = (accepted_only s d e).1
 
 -- its banks and RAM are within its mapper's limits,
-pub accepted_within : (s : List ℕ) (d : Facts) → check_of s ≡ Accept d → Within d.kind d.banks d.size
+pub accepted_within : (s : List ℕ) (d : Facts) → check_of s ≡ Ok d → Within d.kind d.banks d.size
 accepted_within s d e =
     let f = accepted_fits s d e in image.within d.kind d.banks d.size f.supported f.limit
 
 -- the bank count is a power of two from 2 on, the padded length that many banks, a multicart's 64, the RAM size one of six.
-pub accepted_is_fitting : (s : List ℕ) (d : Facts) → check_of s ≡ Accept d → Fitting s d
+pub accepted_is_fitting : (s : List ℕ) (d : Facts) → check_of s ≡ Ok d → Fitting s d
 accepted_is_fitting = accepted_fits
 
 -- Header 1: "An image counts as padded: zeros follow it .. So a byte past its end is 0.": the image read as padded is the padded image.
@@ -161,10 +157,10 @@ pub verdict_is_local : (s t : List ℕ) → Agree s t → check_of s ≡ check_o
 verdict_is_local = same_verdict
 
 -- 2. Demand 2: "the RAM that a write changes". First Bus 2: "An accepted mounting makes every byte of the RAM area 0.";
-pub mount_zeroes : (image ram : List ℕ) (wall : ℕ) (c : Cartridge) → mount_of image ram wall ≡ mounted.To c
+pub mount_zeroes : (image ram : List ℕ) (wall : ℕ) (c : Cartridge) → mount_of image ram wall ≡ Ok c
     → mount.area_after image ram wall ≡ replicate (length ram) 0
 unfolding mount.area_after
-mount_zeroes image ram wall c e = ap (λ (x : Mounted). mount.area_by x ram) e
+mount_zeroes image ram wall c e = ap (λ (x : Result Cartridge MountRefusal). mount.area_by x ram) e
 
 -- a write changes at most one byte of the area, below 0x8000 none, and a read changes nothing.
 pub write_changes_one : (c : Cartridge) (ram : List ℕ) (addr byte : ℕ) → AtMostOne ram (area_after c ram addr byte)
@@ -209,21 +205,21 @@ pub rust_does_not_panic : (image : List ℕ) (now : ℕ) → ImageInDomain image
 rust_does_not_panic = original.no_panic
 
 -- takes what we accept, with our facts, and only that,
-pub rust_takes_what_we_accept : (image : List ℕ) (now : ℕ) → ImageInDomain image → (d : Facts) → check_of image ≡ Accept d
+pub rust_takes_what_we_accept : (image : List ℕ) (now : ℕ) → ImageInDomain image → (d : Facts) → check_of image ≡ Ok d
     → from_file image now ≡ ok (taken (cartridge_of image now d))
 rust_takes_what_we_accept = original.taken_if
 
 pub we_accept_what_rust_takes : (image : List ℕ) (now : ℕ) → ImageInDomain image → (o : rust.Cartridge)
-    → from_file image now ≡ ok (taken o) → (d : Facts) × (check_of image ≡ Accept d) × (o ≡ cartridge_of image now d)
+    → from_file image now ≡ ok (taken o) → (d : Facts) × (check_of image ≡ Ok d) × (o ≡ cartridge_of image now d)
 we_accept_what_rust_takes = original.taken_only
 
 -- and errs where we refuse, with the error of our number, and only there.
-pub rust_errs_where_we_refuse : (image : List ℕ) (now : ℕ) → ImageInDomain image → (w : HeaderRefusal) → check_of image ≡ Refuse w
+pub rust_errs_where_we_refuse : (image : List ℕ) (now : ℕ) → ImageInDomain image → (w : HeaderRefusal) → check_of image ≡ Err w
     → (e : CartridgeError) × (from_file image now ≡ ok (error e)) × (number_of e ≡ header.number_of w)
 rust_errs_where_we_refuse = original.erred_if
 
 pub we_refuse_where_rust_errs : (image : List ℕ) (now : ℕ) → ImageInDomain image → (e : CartridgeError)
-    → from_file image now ≡ ok (error e) → (w : HeaderRefusal) × (check_of image ≡ Refuse w) × (number_of e ≡ header.number_of w)
+    → from_file image now ≡ ok (error e) → (w : HeaderRefusal) × (check_of image ≡ Err w) × (number_of e ≡ header.number_of w)
 we_refuse_where_rust_errs = original.erred_only
 
 -- 6. Demand 2: "the byte that an address reads and the RAM that a write changes .. for .. every sequence of accesses": any game with its
@@ -249,7 +245,7 @@ save_is_ours = games.save_is_ours
 
 -- the room of our own call then begins with the Rust's file.
 pub room_is_file : (m : Machine) (o : rust.Cartridge) (now : ℕ) (w : WritesRam m o now) → BlockOurs m now w.behind → (room : List ℕ) (k : ℕ)
-    → save_of m.cart m.area (length room) now ≡ Wrote k → save_sram_file o now ≡ ok (take k (room_after m.cart m.area room now))
+    → save_of m.cart m.area (length room) now ≡ Ok k → save_sram_file o now ≡ ok (take k (room_after m.cart m.area room now))
 room_is_file = games.room_is_file
 
 -- The same from any point of a game on, where the Rust's state stands beside ours.
@@ -273,12 +269,12 @@ pub way_back_goes_on : (k : Clock) (wall : ℕ) → wall ≤ k.time → (k.runni
 way_back_goes_on = games.way_back_prompt
 
 -- Where we refuse one with 18 it reads none,
-pub rust_reads_none_at_18 : (g : Game) (save : List ℕ) → answer_to (mounted_machine g) save g.wall ≡ save-no.Refuse NoBattery
+pub rust_reads_none_at_18 : (g : Game) (save : List ℕ) → answer_to (mounted_machine g) save g.wall ≡ Err NoBattery
     → from_file_with g.image g.wall (some save) ≡ from_file g.image g.wall
 rust_reads_none_at_18 = saves.rust_at_18
 
 -- with 19 none either, but for an MBC2's that has the header's RAM:
-pub rust_reads_none_at_19 : (g : Game) (save : List ℕ) → answer_to (mounted_machine g) save g.wall ≡ save-no.Refuse ShortSave
+pub rust_reads_none_at_19 : (g : Game) (save : List ℕ) → answer_to (mounted_machine g) save g.wall ≡ Err ShortSave
     → (from_file_with g.image g.wall (some save) ≡ from_file g.image g.wall)
     ⊎ ((k : Mbc2) × (g.cart.mapper ≡ mapper.Mbc2 k) × (g.cart.battery ≡ true) × (g.cart.size ≤ length save))
 rust_reads_none_at_19 = saves.rust_at_19
@@ -293,7 +289,7 @@ pub rust_fills_half_bytes : (g : Game) (save : List ℕ) (k : Mbc2) → g.cart.m
 rust_fills_half_bytes = saves.half_bytes_filled
 
 -- with 17 it panics,
-pub rust_panics_at_17_of_a_save : (g : Game) (save : List ℕ) → answer_to (mounted_machine g) save g.wall ≡ save-no.Refuse (Block Late)
+pub rust_panics_at_17_of_a_save : (g : Game) (save : List ℕ) → answer_to (mounted_machine g) save g.wall ≡ Err (Block Late)
     → from_file_with g.image g.wall (some save) ≡ panic
 rust_panics_at_17_of_a_save = saves.rust_at_17
 
@@ -304,7 +300,7 @@ pub rust_reads_the_ram : (g : Game) → g.cart.battery ≡ true → has_clock (c
 rust_reads_the_ram = stop.timer_ram_read
 
 -- 8. Nothing is refused without need. Where 11 is given the Rust panics, or it is an MBC1 above 128 banks,
-pub rust_panics_at_11 : (image : List ℕ) (now : ℕ) → bytes.Octets image → check_of image ≡ Refuse Beyond
+pub rust_panics_at_11 : (image : List ℕ) (now : ℕ) → bytes.Octets image → check_of image ≡ Err Beyond
     → BeyondGives (header.row_of (header.found_of image)).1 (header.banks_of image) (from_file image now)
 rust_panics_at_11 = original.eleven_stops
 
@@ -330,7 +326,7 @@ pub rust_panics_only_there : {image : List ℕ} (past : Since) {m : Machine} {o 
 rust_panics_only_there = panic_refused
 
 -- 9. Header 4: "a part of the caller's own image, not a copy": the title is the part from 0x134 of the accepted facts' length,
-pub title_is_a_part : (image : List ℕ) (d : Facts) → check_of image ≡ Accept d → TitlePart image 0x134 d.title
+pub title_is_a_part : (image : List ℕ) (d : Facts) → check_of image ≡ Ok d → TitlePart image 0x134 d.title
 title_is_a_part = title.accepted_title
 
 -- where every answer of `image::title` lies,
@@ -338,7 +334,7 @@ pub title_lies_there : AnswersTitle answered.Learnt (λ k a. a.0) (λ k r. r)
 title_lies_there = title.title_answers
 
 -- and the place and the length that the boundary hands out.
-pub boundary_title : (image facts : List ℕ) (d : Facts) → check_of image ≡ Accept d
+pub boundary_title : (image facts : List ℕ) (d : Facts) → check_of image ≡ Ok d
     → TitlePart image (get_or (facts_after image facts) 8 0) (get_or (facts_after image facts) 9 0)
 boundary_title = title.boundary_title
 
@@ -377,7 +373,7 @@ pub mounted_watches : (c : Call imf-mount.Learnt) (x : MountsBy c) (d : Call imf
 mounted_watches = through.watched_mounted
 
 -- and one that kept the bytes of a state as the library wrote them, with an image and an area of its lengths.
-pub resumed_watches : (image s ram : List ℕ) (c : Cartridge) → bytes.Octets s → decode_of s ≡ decoded.To c → encode_of c ≡ s
+pub resumed_watches : (image s ram : List ℕ) (c : Cartridge) → bytes.Octets s → decode_of s ≡ Some c → encode_of c ≡ s
     → Ready image (record { cart = c; area = ram }) → (d : Call imf-windows.Learnt) → d.passed.0.now ≡ s
     → Watches image (record { cart = c; area = ram }) (watched (kept s ram) d.left.1.0.now)
 resumed_watches = through.watched_again

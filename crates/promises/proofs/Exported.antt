@@ -1,5 +1,6 @@
 -- Of the exported calls, Demand 1: "Every bad input has its number, and a refused call changes neither the cartridge nor any lent byte.",
 -- in the form of Demand1, of any bytes as a state.
+use Rattle.std.specs.Prelude.{Ok, Err, Some, None, Result, Option}
 use mathlib.Core.Bool.{Bool, true, false, not}
 use mathlib.Core.List.{List, [], ◌∷◌, ◌++◌, map}
 use mathlib.Core.Logic.{◌⊎◌, inl, inr}
@@ -28,7 +29,6 @@ use Rattle.cartridge.specs.declared.Cartridge.{Cartridge}
 use Rattle.save_file.specs.Admit as admit
 use Rattle.save_file.specs.Load as load
 use Rattle.save_file.specs.Load.{accepted_of}
-use Rattle.save_file.specs.declared.Loaded.{Loaded}
 use Rattle.save_file.specs.declared.SaveRefusal.{SaveRefusal}
 use Rattle.save_file.specs.declared.SaveRefusal.TheVariants as saving-no
 use Rattle.mount.specs.Mount as mount
@@ -37,22 +37,19 @@ use Rattle.mount.specs.declared.MountRefusal.TheVariants.{Header, WrongArea}
 use Rattle.access.specs.Verdict as access
 use Rattle.access.specs.declared.BusRefusal.{BusRefusal}
 use Rattle.access.specs.declared.BusRefusal.TheVariants.{Unfit, WrongLength, BadAddress, BadSelection}
-use Rattle.access.specs.declared.Verdict.{Verdict}
+use Rattle.access.specs.declared.Target.{Target}
 use Rattle.bus.specs.Bus as bus
 use Rattle.bus.specs.Bus.{write_by}
 use Rattle.states.specs.Reading.{decode_of}
-use Rattle.states.specs.declared.Decoded.{Decoded}
-use Rattle.states.specs.declared.Decoded.TheVariants.{To, NoState}
 use Rattle.states.specs.OnState.{on_state}
 use Rattle.windows.specs.Windows.{windows_of, ask_of}
 use Rattle.windows.specs.Through.{place_in, rom_start, ram_seen, seen_of, put_by, put_of}
 use Rattle.windows.specs.declared.Windows.{Windows}
-use Rattle.windows.specs.declared.Seen.TheVariants as seen
-use Rattle.windows.specs.declared.Put.TheVariants as put
-use Rattle.windows.specs.declared.Asked.TheVariants as asked
+use Rattle.windows.specs.declared.Miss.TheVariants.{Ask}
+use Rattle.windows.specs.declared.Miss.TheVariants as miss
 use Rattle.player.specs.Header.{header_by, header_of}
 use Rattle.player.specs.Bus.{mount_number, mount_of, read_number, read_of, write_number, write_of, advance_number, advance_of}
-use Rattle.player.specs.Save.{room_number, size_of, saved_number, save_of, loaded_number, load_of}
+use Rattle.player.specs.Save.{size_number, size_of, save_of, loaded_number, load_of}
 use Rattle.player.specs.Windows.{windows_in, asked_number, windows_number, seen_number, put_number, window_read, window_write, area_through}
 use Rattle.shipped.proofs.WidthLaws.{decoded_widths}
 use Rattle.shipped.proofs.ByteLaws.{octets_or, read_lt}
@@ -103,13 +100,13 @@ module _ {R A : Type 0} {numbers : List ℕ} (f : Cartridge → Call R A) (why :
     (says : (c : Cartridge) (w : R) → number ((f c).refuse w) ≡ refuse w)
     (apart : (c : Cartridge) (w : R) → number (f c).accepted ≡ refuse w → false ≡ true) (apart₀ : (w : R) → 0 ≡ refuse w → false ≡ true)
     (one : (v w : R) → refuse v ≡ refuse w → v ≡ w) (thirteen : 13 ≡ refuse why) where
-  pub on_bytes_lem : (d : Decoded) (before after : List ℕ)
+  pub on_bytes_lem : (d : Option Cartridge) (before after : List ℕ)
       → ((w : R) → on_state (λ c. number (f c).answer) 13 d ≡ refuse w → after ≡ before)
       → Refusing numbers
       (on_bytes f (no true why ∷ rest) number_of number refuse d (on_state (λ c. number (f c).answer) 13 d) before after)
-  on_bytes_lem (To c) before after stays = as_numbers (f c) number_of number refuse before after (all c) (order c) (says c) (apart c) one stays
-  on_bytes_lem NoState before after stays =
-      by_first (on_bytes f (no true why ∷ rest) number_of number refuse NoState 13 before after) thirteen one apart₀ order₀ stays
+  on_bytes_lem (Some c) before after stays = as_numbers (f c) number_of number refuse before after (all c) (order c) (says c) (apart c) one stays
+  on_bytes_lem None before after stays =
+      by_first (on_bytes f (no true why ∷ rest) number_of number refuse None 13 before after) thirteen one apart₀ order₀ stays
 
 -- ---- the numbers of the refusals: none is 0, and no two are one
 
@@ -222,7 +219,7 @@ no_zero number_of h w e = absurd (omega (arith, e, h w))
 taken_zero : (c : Cartridge) (behind : List ℕ) (wall : ℕ) (w : SaveRefusal) → loaded_number (accepted_of c behind wall) ≡ admit.number_of w → false ≡ true
 unfolding accepted_of
 taken_zero c behind wall w =
-    pick_has (λ (x : Loaded). loaded_number x ≡ admit.number_of w → false ≡ true) (has_block c.mapper behind)
+    pick_has (λ (x : Result (Option Cartridge) SaveRefusal). loaded_number x ≡ admit.number_of w → false ≡ true) (has_block c.mapper behind)
     (no_zero admit.number_of save_some w) (no_zero admit.number_of save_some w)
 
 windows_first : (s : List ℕ)
@@ -230,14 +227,14 @@ windows_first : (s : List ℕ)
 unfolding windows_number ask_of
 windows_first s = go (decode_of s)
   where
-    fits : (b : Bool) (w : Windows) → asked_number (pick b (asked.To w) asked.Unfit) ≡ first_no windows_no (no (not b) tt ∷ []) 0
+    fits : (b : Bool) (w : Windows) → asked_number (pick b (Some w) None) ≡ first_no windows_no (no (not b) tt ∷ []) 0
     fits true w = refl
     fits false w = refl
 
-    go : (d : Decoded) → on_state (λ c. asked_number (ask_of c)) 13 d
+    go : (d : Option Cartridge) → on_state (λ c. asked_number (ask_of c)) 13 d
         ≡ first_no windows_no (on_state (λ c. no (not (fit_cart c)) tt ∷ []) (no true tt ∷ []) d) 0
-    go (To c) = fits (fit_cart c) (windows_of c)
-    go NoState = refl
+    go (Some c) = fits (fit_cart c) (windows_of c)
+    go None = refl
 
 joined : {x y v z : List ℕ} → (x ≡ y) × (v ≡ z) → x ++ v ≡ y ++ z
 joined {y = y} {v = v} p = ap (λ (l : List ℕ). l ++ v) p.0 ∙ ap (λ (l : List ℕ). y ++ l) p.1
@@ -265,14 +262,14 @@ unfolding window_read seen_of ram_seen
 window_read_first numbers image ram addr =
     let w = windows_in numbers in
     let byte = get_or ram (place_in w addr) 0xFF in
-    window_first seen_number outside_read addr w.how (seen.Byte (byte_at image (rom_start w addr + addr % 0x4000))) seen.BadAddress seen.Ask
-    (seen.Byte 0xFF ∷ seen.Byte byte ∷ seen.Byte (0xF0 + byte % 16) ∷ []) refl
+    window_first seen_number outside_read addr w.how (Ok (byte_at image (rom_start w addr + addr % 0x4000))) (Err miss.BadAddress) (Err Ask)
+    (Ok 0xFF ∷ Ok byte ∷ Ok (0xF0 + byte % 16) ∷ []) refl
 
 window_write_first : (numbers : List ℕ) (addr : ℕ)
     → window_write numbers addr ≡ first_no outside_no (outside addr) (taken_through (windows_in numbers) addr)
 unfolding window_write put_of put_by
 window_write_first numbers addr =
-    window_first put_number outside_no addr (windows_in numbers).how put.Ask put.BadAddress put.Ask (put.Done ∷ put.Done ∷ put.Done ∷ []) refl
+    window_first put_number outside_no addr (windows_in numbers).how (Err Ask) (Err miss.BadAddress) (Err Ask) (Ok tt ∷ Ok tt ∷ Ok tt ∷ []) refl
 
 -- neither a byte nor 0x200 is 0x10F
 byte_apart : (w : Windows) (image ram : List ℕ) (addr : ℕ) → Octets image → Octets ram → byte_through w image ram addr ≡ 0x10F → false ≡ true
@@ -322,7 +319,7 @@ unfolding write_of
 imf_write_refuses s ram addr byte =
     on_bytes_lem (λ c. writing c ram addr byte) Unfit (no false WrongLength ∷ no false BadAddress ∷ no false BadSelection ∷ []) access.number_of
     write_number access.number_of (λ c. write_refuses c ram addr byte) (λ c. (write_refuses c ram addr byte).order) refl (λ c w. refl)
-    (λ c w. pick_has (λ (v : Verdict). write_number (write_by c addr byte v) ≡ access.number_of w → false ≡ true) (access.in_rom addr)
+    (λ c w. pick_has (λ (v : Result Target BusRefusal). write_number (write_by c addr byte v) ≡ access.number_of w → false ≡ true) (access.in_rom addr)
     (no_zero access.number_of bus_some w) (no_zero access.number_of bus_some w))
     (no_zero access.number_of bus_some)
     (back_one access.number_of (λ n. get_or (Unfit ∷ WrongLength ∷ BadAddress ∷ BadSelection ∷ []) (n - 13) Unfit) bus_back) refl
@@ -340,7 +337,7 @@ imf_advance_refuses s n =
 pub imf_save_size_refuses : (s : List ℕ) (size : ℕ) → Refusing (13 ∷ 18 ∷ []) (imf_save_size s size)
 unfolding size_of
 imf_save_size_refuses s size =
-    on_bytes_lem sizing saving-no.Unfit (no false saving-no.NoBattery ∷ []) admit.number_of room_number admit.number_of ask_room_refuses
+    on_bytes_lem sizing saving-no.Unfit (no false saving-no.NoBattery ∷ []) admit.number_of size_number admit.number_of ask_room_refuses
     (λ c. (ask_room_refuses c).order) refl (λ c w. refl) (λ c. no_zero admit.number_of save_some) (no_zero admit.number_of save_some)
     (back_one admit.number_of (λ n. get_or save_refusals (n - 13) saving-no.Unfit) save_back) refl (decode_of s) (size ∷ []) _
     (λ w e. ap (λ (n : ℕ). n ∷ []) (refused_size_keeps s size (admit.number_of w - 1) (e ∙ save_some w)))
@@ -349,7 +346,7 @@ pub imf_save_out_refuses : (s ram room : List ℕ) (wall size : ℕ) → Refusin
 unfolding save_of
 imf_save_out_refuses s ram room wall size =
     on_bytes_lem (λ c. saving c ram room wall) saving-no.Unfit
-    (no false saving-no.WrongLength ∷ no false saving-no.NoBattery ∷ no false saving-no.ShortRoom ∷ []) admit.number_of saved_number
+    (no false saving-no.WrongLength ∷ no false saving-no.NoBattery ∷ no false saving-no.ShortRoom ∷ []) admit.number_of size_number
     admit.number_of (λ c. save_refuses c ram room wall) (λ c. (save_refuses c ram room wall).order) refl (λ c w. refl)
     (λ c. no_zero admit.number_of save_some) (no_zero admit.number_of save_some)
     (back_one admit.number_of (λ n. get_or save_refusals (n - 13) saving-no.Unfit) save_back) refl (decode_of s) (size ∷ room) _
@@ -370,17 +367,17 @@ imf_save_in_refuses s ram bytes wall clock =
     three {x = x} {v = v} {n = n} p =
         ap (λ (k : ℕ). k ∷ (x ++ v)) p.1.1 ∙ ap (λ (l : List ℕ). n ∷ l) (joined (p.0, p.1.0))
 
-    go : (d : Decoded) (before after : List ℕ)
+    go : (d : Option Cartridge) (before after : List ℕ)
         → ((w : SaveRefusal) → on_state (λ c. loaded_number (load.load_of c (length ram) bytes wall)) 13 d ≡ admit.number_of w → after ≡ before)
         → Refusing (13 ∷ 14 ∷ 18 ∷ 19 ∷ 20 ∷ 17 ∷ [])
         (on_bytes (λ c. loading c ram bytes wall) load_none admit.number_of loaded_number admit.number_of d
         (on_state (λ c. loaded_number (load.load_of c (length ram) bytes wall)) 13 d) before after)
-    go (To c) before after stays =
+    go (Some c) before after stays =
         as_numbers (loading c ram bytes wall) admit.number_of loaded_number admit.number_of before after (load_refuses c ram bytes wall)
         (load_refuses c ram bytes wall).order (λ w. refl) (taken_zero c (drop (length ram) bytes) wall)
         (back_one admit.number_of (λ n. get_or save_refusals (n - 13) saving-no.Unfit) save_back) stays
-    go NoState before after stays =
-        by_first (on_bytes (λ c. loading c ram bytes wall) load_none admit.number_of loaded_number admit.number_of NoState 13 before after) refl
+    go None before after stays =
+        by_first (on_bytes (λ c. loading c ram bytes wall) load_none admit.number_of loaded_number admit.number_of None 13 before after) refl
         (back_one admit.number_of (λ n. get_or save_refusals (n - 13) saving-no.Unfit) save_back) (no_zero admit.number_of save_some) refl stays
 
 -- The types give at the boundary that what is lent is bytes. So no byte that is read, of a fit state or another, is a refusal's number.
@@ -393,15 +390,15 @@ imf_read_refuses s image ram addr o i r = go (decode_of s) (λ c e. read_lt c im
     one v w e =
         back_one access.number_of (λ n. get_or (Unfit ∷ WrongLength ∷ BadAddress ∷ BadSelection ∷ []) (n - 13) Unfit) bus_back v w (omega (arith, e))
 
-    go : (d : Decoded) → ((c : Cartridge) → d ≡ To c → read_number (reading c image ram addr).accepted < 0x100)
+    go : (d : Option Cartridge) → ((c : Cartridge) → d ≡ Some c → read_number (reading c image ram addr).accepted < 0x100)
         → Refusing (13 ∷ 14 ∷ 15 ∷ 16 ∷ [])
         (on_bytes (λ c. reading c image ram addr) bus_none access.number_of read_number read_refused d
         (on_state (λ c. read_number (bus.read_of c image ram addr)) 0x10D d) [] [])
-    go (To c) small =
+    go (Some c) small =
         as_numbers (reading c image ram addr) access.number_of read_number read_refused [] [] (read_refuses c image ram addr)
         (read_refuses c image ram addr).order (λ w. refl) (λ w e. absurd (omega (arith, e, small c refl))) one (λ w e. refl)
-    go NoState small =
-        by_first (on_bytes (λ c. reading c image ram addr) bus_none access.number_of read_number read_refused NoState 0x10D [] []) refl one
+    go None small =
+        by_first (on_bytes (λ c. reading c image ram addr) bus_none access.number_of read_number read_refused None 0x10D [] []) refl one
         (λ w e. absurd (omega (arith, e))) refl (λ w e. refl)
 
 pub imf_windows_refuses : (s numbers : List ℕ) → Refusing (13 ∷ []) (imf_windows s numbers)
@@ -409,9 +406,9 @@ imf_windows_refuses s numbers =
     by_first (imf_windows s numbers) (windows_first s) (λ v w e. refl) (λ w e. absurd (omega (arith, e))) (order (decode_of s))
     (λ w e. refused_windows_keep s numbers 12 e)
   where
-    order : (d : Decoded) → map (λ (t : No (Unit {0})). windows_no t.why) (on_state (λ c. no (not (fit_cart c)) tt ∷ []) (no true tt ∷ []) d) ≡ 13 ∷ []
-    order (To c) = refl
-    order NoState = refl
+    order : (d : Option Cartridge) → map (λ (t : No (Unit {0})). windows_no t.why) (on_state (λ c. no (not (fit_cart c)) tt ∷ []) (no true tt ∷ []) d) ≡ 13 ∷ []
+    order (Some c) = refl
+    order None = refl
 
 -- 15 is given outside the windows and nowhere else, whatever the numbers are.
 pub imf_window_read_refuses : (numbers image ram : List ℕ) (addr : ℕ) → Octets image → Octets ram

@@ -1,6 +1,7 @@
 -- The save file (Save 4 and Save 10): what is written comes back. The theorems speak of `save_of`, `room_after`, `load_of` and
 -- `area_after`: the contracts of `save_file::save` and `save_file::load` say that the code's answers, every byte of the lent room
 -- and every byte of the lent RAM area equal these on all inputs. Which calls are refused stands in Demand1.
+use Rattle.std.specs.Prelude.{Ok, Some}
 use mathlib.Core.Bool.{false}
 use mathlib.Core.List.{List, ◌++◌}
 use mathlib.Core.Path.{◌≡◌, refl, ap}
@@ -18,15 +19,13 @@ use Rattle.cartridge.specs.Fit.{area_of}
 use Rattle.cartridge.specs.declared.Cartridge.{Cartridge}
 use Rattle.save_file.specs.Save.{bytes_of, save_of, room_by, room_after}
 use Rattle.save_file.specs.Load.{load_of, area_after}
-use Rattle.save_file.specs.declared.Saved.TheVariants as saved
-use Rattle.save_file.specs.declared.Loaded.TheVariants.{Whole}
 use Rattle.runs.specs.Saves.{Kept, Back}
 use Rattle.runs.specs.Game.{Accepted}
 use Rattle.runs.proofs.SaveLaws as laws
 use Rattle.promises.specs.WaysBack.{Shows, behind, later}
 
 -- 1. Save 4: "A save is written to the start of the room, and what the room has behind it stays."
-pub saved_stands_first : (c : Cartridge) (ram room : List ℕ) (wall n : ℕ) → save_of c ram (length room) wall ≡ saved.Wrote n
+pub saved_stands_first : (c : Cartridge) (ram room : List ℕ) (wall n : ℕ) → save_of c ram (length room) wall ≡ Ok n
     → room_after c ram room wall ≡ bytes_of c.mapper ram wall ++ drop n room
 unfolding room_after
 saved_stands_first c ram room wall n e = ap (room_by (bytes_of c.mapper ram wall) room) e
@@ -55,12 +54,12 @@ another_wall_time = refl
 
 -- 3. Read and written again at the same wall time, a save with a block is the same bytes, but for those that were ignored,
 -- exactly where the stored time is the wall time plus the offset;
-pub again_where : (c d : Cartridge) (ram save : List ℕ) (wall : ℕ) → load_of c (length ram) save wall ≡ Whole d → Octets save
+pub again_where : (c d : Cartridge) (ram save : List ℕ) (wall : ℕ) → load_of c (length ram) save wall ≡ Ok (Some d) → Octets save
     → (block_in (drop (length ram) save)).time ≡ time_of (block_in (drop (length ram) save)) wall
     → bytes_of d.mapper (area_after c ram save wall) wall ≡ take (length ram + 21) save
 again_where = laws.again_if
 
-pub again_only_where : (c d : Cartridge) (ram save : List ℕ) (wall : ℕ) → load_of c (length ram) save wall ≡ Whole d
+pub again_only_where : (c d : Cartridge) (ram save : List ℕ) (wall : ℕ) → load_of c (length ram) save wall ≡ Ok (Some d)
     → bytes_of d.mapper (area_after c ram save wall) wall ≡ take (length ram + 21) save
     → (block_in (drop (length ram) save)).time ≡ time_of (block_in (drop (length ram) save)) wall
 again_only_where = laws.again_only
@@ -72,6 +71,6 @@ pub again_without_timer : (c : Cartridge) (ram save : List ℕ) (wall later : �
 again_without_timer = laws.again_ram
 
 -- 4. A save read into a cartridge leaves it the same area to lend; that it leaves it fit stands in Demand1.
-pub loaded_area_stays : (c d : Cartridge) (area : ℕ) (save : List ℕ) (wall : ℕ) → load_of c area save wall ≡ Whole d
+pub loaded_area_stays : (c d : Cartridge) (area : ℕ) (save : List ℕ) (wall : ℕ) → load_of c area save wall ≡ Ok (Some d)
     → area_of d ≡ area_of c
 loaded_area_stays = laws.load_area_stays

@@ -1,12 +1,11 @@
 -- The bench table: its eight rows (Bench 1 to 8), and what it means that a row holds.
-use Rattle.std.specs.Prelude.{Bool, true, false, ◌≡◌, List, [], ◌∷◌, ℕ, ◌+◌, ◌<◌, ◌≤◌}
+use Rattle.std.specs.Prelude.{Bool, true, false, ◌≡◌, List, [], ◌∷◌, ℕ, ◌+◌, ◌<◌, ◌≤◌, Ok}
 use Rattle.clock.specs.Fit.{fit_clock}
 use Rattle.clock.specs.Ticking.{advance_of}
 use Rattle.clock_registers.specs.Access.{registers}
 use Rattle.clock_registers.specs.Seconds.{second_on}
 use Rattle.clock_registers.specs.declared.Registers.{Registers}
 use Rattle.clock.specs.declared.Clock.{Clock}
-use Rattle.clock.specs.declared.Advanced.TheVariants.{To}
 use Rattle.runs.specs.Time.{seconds_of}
 use Rattle.banking.specs.Banks.{rom_place}
 use Rattle.mbc1.specs.Registers as mbc1
@@ -47,7 +46,7 @@ Holds (stores byte low) =
 Holds (passes w) =
     (t : ℕ) (l : Bool) (f : Registers) → fit_clock (clock_of w.before w.sub t l f) ≡ true
     → t + w.passed ≤ 18446744073709551615
-    → advance_of (clock_of w.before w.sub t l f) w.clocks ≡ To (clock_of w.after w.rest (t + w.passed) l f)
+    → advance_of (clock_of w.before w.sub t l f) w.clocks ≡ Ok (clock_of w.after w.rest (t + w.passed) l f)
 
 abbrev pub All : List Row → Type 0
 All [] = Unit {0}

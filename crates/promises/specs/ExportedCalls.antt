@@ -1,6 +1,6 @@
 -- The exported calls that refuse, each on any bytes: its tests, its numbers, and the bytes that it is lent to write. A call on a state has the
 -- tests of the call on the cartridge that the bytes are; on bytes that are none the first of them holds.
-use Rattle.std.specs.Prelude.{true, false, not, List, [], ◌∷◌, ◌++◌, ℕ, ◌+◌, ◌%◌, length, get_or}
+use Rattle.std.specs.Prelude.{true, false, not, List, [], ◌∷◌, ◌++◌, ℕ, ◌+◌, ◌%◌, length, get_or, Option}
 use Rattle.facts.specs.Choice.{pick, either}
 use Rattle.facts.specs.Refusals.{No, no}
 use Rattle.clock.specs.Ticking as clock
@@ -22,13 +22,12 @@ use Rattle.save_file.specs.declared.SaveRefusal.{SaveRefusal}
 use Rattle.save_file.specs.declared.SaveRefusal.TheVariants as saving-no
 use Rattle.states.specs.Reading.{decode_of}
 use Rattle.states.specs.OnState.{on_state}
-use Rattle.states.specs.declared.Decoded.{Decoded}
 use Rattle.windows.specs.Through.{place_in, rom_start}
 use Rattle.windows.specs.declared.Windows.{Windows}
 use Rattle.flat_write.specs.Calls.{state_written, area_written, state_advanced}
 use Rattle.player.specs.Header.{header_by, header_of, facts_after}
 use Rattle.player.specs.Bus.{mount_number, mount_of, state_mounted, read_number, read_of, write_number, write_of, advance_number, advance_of}
-use Rattle.player.specs.Save.{room_number, size_of, size_asked, saved_number, save_of, room_saved, size_saved, loaded_number, load_of, state_loaded, area_loaded, clock_loaded}
+use Rattle.player.specs.Save.{size_number, size_of, size_asked, save_of, room_saved, size_saved, loaded_number, load_of, state_loaded, area_loaded, clock_loaded}
 use Rattle.player.specs.Windows.{windows_in, windows_number, windows_after, window_read, window_write, area_through}
 use Rattle.promises.specs.Refusing.{Call}
 use Rattle.promises.specs.PublicCalls.{checking, mounting, reading, writing, advancing, saving, sizing, loading}
@@ -47,7 +46,7 @@ in_numbers c number_of number refuse answer before after =
     }
 
 -- a call on the bytes of a state
-abbrev pub on_bytes : {R A : Type 0} → (Cartridge → Call R A) → List (No R) → (R → ℕ) → (A → ℕ) → (R → ℕ) → Decoded → ℕ → List ℕ → List ℕ → Call R ℕ
+abbrev pub on_bytes : {R A : Type 0} → (Cartridge → Call R A) → List (No R) → (R → ℕ) → (A → ℕ) → (R → ℕ) → Option Cartridge → ℕ → List ℕ → List ℕ → Call R ℕ
 on_bytes f none number_of number refuse d answer before after =
     record {
       tests = on_state (λ c. (f c).tests) none d;
@@ -92,14 +91,14 @@ size_none = no true saving-no.Unfit ∷ no false saving-no.NoBattery ∷ []
 
 abbrev pub imf_save_size : List ℕ → ℕ → Call SaveRefusal ℕ
 imf_save_size s size =
-    on_bytes sizing size_none admit.number_of room_number admit.number_of (decode_of s) (size_of s) (size ∷ []) (size_asked s size ∷ [])
+    on_bytes sizing size_none admit.number_of size_number admit.number_of (decode_of s) (size_of s) (size ∷ []) (size_asked s size ∷ [])
 
 abbrev pub save_none : List (No SaveRefusal)
 save_none = no true saving-no.Unfit ∷ no false saving-no.WrongLength ∷ no false saving-no.NoBattery ∷ no false saving-no.ShortRoom ∷ []
 
 abbrev pub imf_save_out : List ℕ → List ℕ → List ℕ → ℕ → ℕ → Call SaveRefusal ℕ
 imf_save_out s ram room wall size =
-    on_bytes (λ c. saving c ram room wall) save_none admit.number_of saved_number admit.number_of (decode_of s) (save_of s ram (length room) wall)
+    on_bytes (λ c. saving c ram room wall) save_none admit.number_of size_number admit.number_of (decode_of s) (save_of s ram (length room) wall)
     (size ∷ room) (size_saved s ram (length room) wall size ∷ room_saved s ram room wall)
 
 -- `imf_save_in`: lent are the state, the RAM area and the word for the clock

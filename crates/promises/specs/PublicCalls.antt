@@ -1,24 +1,18 @@
 -- The public calls that refuse, each on any input: its tests, its answers, and the bytes that it is lent to write.
-use Rattle.std.specs.Prelude.{false, not, List, [], ◌∷◌, ◌++◌, ℕ, ◌+◌, eqb, ltb, length, replicate, drop}
+use Rattle.std.specs.Prelude.{false, not, List, [], ◌∷◌, ◌++◌, ℕ, ◌+◌, eqb, ltb, length, replicate, drop, Ok, Err, Some, Result, Option}
 use Rattle.facts.specs.Choice.{pick}
 use Rattle.facts.specs.Refusals.{No, no, in_words}
 use Rattle.clock.specs.Fit.{fit_clock}
 use Rattle.clock.specs.Ticking as clock
 use Rattle.clock.specs.declared.AdvanceRefusal.{AdvanceRefusal}
 use Rattle.clock.specs.declared.AdvanceRefusal.TheVariants.{Unfit, Late}
-use Rattle.clock.specs.declared.Advanced as ticked
-use Rattle.clock.specs.declared.Advanced.TheVariants as ticks
 use Rattle.clock.specs.declared.Clock.{Clock}
 use Rattle.clock_block.specs.Waking as block
 use Rattle.clock_block.specs.declared.Block.{Block}
 use Rattle.clock_block.specs.declared.BlockRefusal.{BlockRefusal}
-use Rattle.clock_block.specs.declared.Woken.{Woken}
-use Rattle.clock_block.specs.declared.Woken.TheVariants as woken
 use Rattle.header.specs.Check as header
 use Rattle.header.specs.Check.{row_of, found_of, facts_of}
 use Rattle.header.specs.Accepted.{tests_of}
-use Rattle.header.specs.declared.Checked.{Checked}
-use Rattle.header.specs.declared.Checked.TheVariants as checked
 use Rattle.header.specs.declared.Facts.{Facts}
 use Rattle.header.specs.declared.HeaderRefusal.{HeaderRefusal}
 use Rattle.mapper.specs.Mappers as mapper
@@ -28,43 +22,25 @@ use Rattle.cartridge.specs.With.{with_mapper}
 use Rattle.cartridge.specs.declared.Cartridge.{Cartridge}
 use Rattle.mount.specs.Mount as mount
 use Rattle.mount.specs.Mount.{cart_of}
-use Rattle.mount.specs.declared.Area.{Area}
-use Rattle.mount.specs.declared.Area.TheVariants as area
-use Rattle.mount.specs.declared.Mounted.{Mounted}
-use Rattle.mount.specs.declared.Mounted.TheVariants as mounted
 use Rattle.mount.specs.declared.MountRefusal.{MountRefusal}
 use Rattle.mount.specs.declared.MountRefusal.TheVariants.{Header, WrongArea}
 use Rattle.access.specs.Verdict as access
 use Rattle.access.specs.declared.BusRefusal.{BusRefusal}
-use Rattle.access.specs.declared.Verdict.TheVariants.{Rom, Ram}
+use Rattle.access.specs.declared.Target.TheVariants.{Rom, Ram}
 use Rattle.bus.specs.Advance as advance
 use Rattle.bus.specs.Bus as bus
-use Rattle.bus.specs.declared.Advanced.{Advanced}
-use Rattle.bus.specs.declared.Advanced.TheVariants as advanced
-use Rattle.bus.specs.declared.ReadAnswer.{ReadAnswer}
-use Rattle.bus.specs.declared.ReadAnswer.TheVariants as read
-use Rattle.bus.specs.declared.WriteAnswer.{WriteAnswer}
-use Rattle.bus.specs.declared.WriteAnswer.TheVariants as write
 use Rattle.save_file.specs.Admit as admit
 use Rattle.save_file.specs.Save as save
 use Rattle.save_file.specs.Load as load
 use Rattle.save_file.specs.declared.SaveRefusal.{SaveRefusal}
-use Rattle.save_file.specs.declared.Room.{Room}
-use Rattle.save_file.specs.declared.Room.TheVariants as room
-use Rattle.save_file.specs.declared.Saved.{Saved}
-use Rattle.save_file.specs.declared.Saved.TheVariants as saved
-use Rattle.save_file.specs.declared.Loaded.{Loaded}
-use Rattle.save_file.specs.declared.Loaded.TheVariants as loaded
 use Rattle.trace.specs.Trace as trace
 use Rattle.trace.specs.Noes.{trace_noes, taken_at}
 use Rattle.trace.specs.declared.TraceRefusal.{TraceRefusal}
-use Rattle.trace.specs.declared.Next.{Next}
-use Rattle.trace.specs.declared.Next.TheVariants as next
+use Rattle.trace.specs.declared.Record.{Record}
 use Rattle.lines.specs.Lines.{numbered}
 use Rattle.replay_step.specs.Step.{machine}
 use Rattle.replay_text.specs.Replay.{text_of}
 use Rattle.replay_program.specs.Written.{written_of, ram_after}
-use Rattle.replay_program.specs.declared.File.TheVariants.{Whole}
 use Rattle.promises.specs.Refusing.{Call}
 
 -- ---- the header and mounting
@@ -74,26 +50,26 @@ abbrev pub facts_in : List ℕ → Facts
 facts_in image = facts_of image (row_of (found_of image))
 
 -- `header::check`
-abbrev pub checking : List ℕ → Call HeaderRefusal Checked
+abbrev pub checking : List ℕ → Call HeaderRefusal (Result Facts HeaderRefusal)
 checking image =
     record {
       tests = tests_of image;
       number_of = header.number_of;
-      refuse = checked.Refuse;
-      accepted = checked.Accept (facts_in image);
+      refuse = Err;
+      accepted = Ok (facts_in image);
       answer = header.check_of image;
       before = [];
       after = [];
     }
 
 -- `mount::ask_area`
-abbrev pub asking : List ℕ → Call HeaderRefusal Area
+abbrev pub asking : List ℕ → Call HeaderRefusal (Result ℕ HeaderRefusal)
 asking image =
     record {
       tests = tests_of image;
       number_of = header.number_of;
-      refuse = area.Refuse;
-      accepted = area.Bytes (mount.area_in (facts_in image).kind (facts_in image).size);
+      refuse = Err;
+      accepted = Ok (mount.area_in (facts_in image).kind (facts_in image).size);
       answer = mount.area_for image;
       before = [];
       after = [];
@@ -108,13 +84,13 @@ unfoldable pub mount_noes : List ℕ → ℕ → ℕ → List (No MountRefusal)
 mount_noes image ram wall = in_words Header (tests_of image) ++ area_noes image ram wall
 
 -- `mount::mount`, of an image, a RAM area lent to be written, and a wall time
-abbrev pub mounting : List ℕ → List ℕ → ℕ → Call MountRefusal Mounted
+abbrev pub mounting : List ℕ → List ℕ → ℕ → Call MountRefusal (Result Cartridge MountRefusal)
 mounting image ram wall =
     record {
       tests = mount_noes image (length ram) wall;
       number_of = mount.number_of;
-      refuse = mounted.Refuse;
-      accepted = mounted.To (cart_of (facts_in image) (length image) wall);
+      refuse = Err;
+      accepted = Ok (cart_of (facts_in image) (length image) wall);
       answer = mount.mount_of image ram wall;
       before = ram;
       after = mount.area_after image ram wall;
@@ -123,52 +99,52 @@ mounting image ram wall =
 -- ---- the bus
 
 -- `bus::read`. It selects nothing, so that its test for 16 never holds
-abbrev pub reading : Cartridge → List ℕ → List ℕ → ℕ → Call BusRefusal ReadAnswer
+abbrev pub reading : Cartridge → List ℕ → List ℕ → ℕ → Call BusRefusal (Result ℕ BusRefusal)
 reading c rom ram addr =
     record {
       tests = access.noes c (bus.lent_both c (length rom) (length ram)) addr false;
       number_of = access.number_of;
-      refuse = read.Refuse;
-      accepted = bus.read_by c rom ram addr (pick (access.in_rom addr) Rom Ram);
+      refuse = Err;
+      accepted = bus.read_by c rom ram addr (pick (access.in_rom addr) (Ok Rom) (Ok Ram));
       answer = bus.read_of c rom ram addr;
       before = [];
       after = [];
     }
 
 -- `bus::write`, which is lent the RAM area to write
-abbrev pub writing : Cartridge → List ℕ → ℕ → ℕ → Call BusRefusal WriteAnswer
+abbrev pub writing : Cartridge → List ℕ → ℕ → ℕ → Call BusRefusal (Result Cartridge BusRefusal)
 writing c ram addr byte =
     record {
       tests = access.noes c (bus.lent_area c (length ram)) addr (mapper.bad_selection c.mapper addr byte);
       number_of = access.number_of;
-      refuse = write.Refuse;
-      accepted = bus.write_by c addr byte (pick (access.in_rom addr) Rom Ram);
+      refuse = Err;
+      accepted = bus.write_by c addr byte (pick (access.in_rom addr) (Ok Rom) (Ok Ram));
       answer = bus.write_of c ram addr byte;
       before = ram;
       after = bus.area_after c ram addr byte;
     }
 
 -- `bus::advance`
-abbrev pub advancing : Cartridge → ℕ → Call AdvanceRefusal Advanced
+abbrev pub advancing : Cartridge → ℕ → Call AdvanceRefusal (Result Cartridge AdvanceRefusal)
 advancing c n =
     record {
       tests = advance.advance_noes c n;
       number_of = clock.number_of;
-      refuse = advanced.Refuse;
-      accepted = advanced.To (with_mapper c (mapper.clocks_on c.mapper n));
+      refuse = Err;
+      accepted = Ok (with_mapper c (mapper.clocks_on c.mapper n));
       answer = advance.advance_of c n;
       before = [];
       after = [];
     }
 
 -- `Clock::advance`
-abbrev pub ticking : Clock → ℕ → Call AdvanceRefusal ticked.Advanced
+abbrev pub ticking : Clock → ℕ → Call AdvanceRefusal (Result Clock AdvanceRefusal)
 ticking c n =
     record {
       tests = no (not (fit_clock c)) Unfit ∷ no (clock.late c n) Late ∷ [];
       number_of = clock.number_of;
-      refuse = ticks.Refuse;
-      accepted = ticks.To (clock.ticks n c);
+      refuse = Err;
+      accepted = Ok (clock.ticks n c);
       answer = clock.advance_of c n;
       before = [];
       after = [];
@@ -177,38 +153,38 @@ ticking c n =
 -- ---- the save file
 
 -- `save_file::save`, which is lent the room to write
-abbrev pub saving : Cartridge → List ℕ → List ℕ → ℕ → Call SaveRefusal Saved
+abbrev pub saving : Cartridge → List ℕ → List ℕ → ℕ → Call SaveRefusal (Result ℕ SaveRefusal)
 saving c ram room wall =
     record {
       tests = save.save_noes c ram (length room) wall;
       number_of = admit.number_of;
-      refuse = saved.Refuse;
-      accepted = saved.Wrote (length (save.bytes_of c.mapper ram wall));
+      refuse = Err;
+      accepted = Ok (length (save.bytes_of c.mapper ram wall));
       answer = save.save_of c ram (length room) wall;
       before = room;
       after = save.room_after c ram room wall;
     }
 
 -- `save_file::ask_room`
-abbrev pub sizing : Cartridge → Call SaveRefusal Room
+abbrev pub sizing : Cartridge → Call SaveRefusal (Result ℕ SaveRefusal)
 sizing c =
     record {
       tests = save.ask_noes c;
       number_of = admit.number_of;
-      refuse = room.Refuse;
-      accepted = room.Bytes (area_of c + battery_size (clock_in c.mapper));
+      refuse = Err;
+      accepted = Ok (area_of c + battery_size (clock_in c.mapper));
       answer = save.room_for c;
       before = [];
       after = [];
     }
 
 -- `save_file::load`, which is lent the RAM area to write
-abbrev pub loading : Cartridge → List ℕ → List ℕ → ℕ → Call SaveRefusal Loaded
+abbrev pub loading : Cartridge → List ℕ → List ℕ → ℕ → Call SaveRefusal (Result (Option Cartridge) SaveRefusal)
 loading c ram bytes wall =
     record {
       tests = load.load_noes c (length ram) bytes wall;
       number_of = admit.number_of;
-      refuse = loaded.Refuse;
+      refuse = Err;
       accepted = load.accepted_of c (drop (length ram) bytes) wall;
       answer = load.load_of c (length ram) bytes wall;
       before = ram;
@@ -216,13 +192,13 @@ loading c ram bytes wall =
     }
 
 -- `Block::wake`
-abbrev pub waking : Block → ℕ → Call BlockRefusal Woken
+abbrev pub waking : Block → ℕ → Call BlockRefusal (Result Clock BlockRefusal)
 waking b wall =
     record {
       tests = block.block_noes b wall;
       number_of = block.number_of;
-      refuse = woken.Refuse;
-      accepted = woken.To (block.woken_of b wall);
+      refuse = Err;
+      accepted = Ok (block.woken_of b wall);
       answer = block.wake_of b wall;
       before = [];
       after = [];
@@ -231,12 +207,12 @@ waking b wall =
 -- ---- the trace
 
 -- `trace::next_record`, and with it `Reader::next`
-abbrev pub stepping : List ℕ → ℕ → Call TraceRefusal Next
+abbrev pub stepping : List ℕ → ℕ → Call TraceRefusal (Result (Option (Record × ℕ)) TraceRefusal)
 stepping s at =
     record {
       tests = trace_noes s at;
       number_of = trace.number_of;
-      refuse = next.Refuse;
+      refuse = Err;
       accepted = taken_at s at;
       answer = trace.record_at s at;
       before = [];
@@ -268,7 +244,7 @@ replaying image s ram =
       number_of = mount.number_of;
       refuse = mount_line;
       accepted = text_of image (machine (cart_of (facts_in image) (length image) 0) (replicate (asked_in image) 0)) s;
-      answer = written_of Whole image Whole s;
+      answer = written_of (Some image) (Some s);
       before = ram;
-      after = ram_after Whole image Whole s ram;
+      after = ram_after (Some image) (Some s) ram;
     }

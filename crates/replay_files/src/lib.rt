@@ -4,44 +4,18 @@
 
 ghost use Rattle.std.specs.Prelude.{◌≡◌, ◌≤◌, length, IfOk};
 
-use replay_program::File;
 use std::io::Read;
 use std::rt::Files;
 use std::{fs, io};
 
-// A file, and how many bytes of its room are its own.
-#[derive(Drop)]
-struct Fetched {
-    file: File,
-    count: usize,
-}
-
-// A byte more than the image and the trace may have, so that one too many is seen.
-fn image_room() -> [u8; 32769]
-    ensures { 32769 ≡ length result }
+// Room for a file, for the RAM area or for the text.
+fn room<const N: usize>() -> [u8; N]
+    ensures { N ≡ length result }
 {
-    [0; 32769]
+    [0; N]
 }
 
-fn trace_room() -> [u8; 16385]
-    ensures { 16385 ≡ length result }
-{
-    [0; 16385]
-}
-
-fn ram_room() -> [u8; 8192]
-    ensures { 8192 ≡ length result }
-{
-    [0; 8192]
-}
-
-fn text_room() -> [u8; 41008]
-    ensures { 41008 ≡ length result }
-{
-    [0; 41008]
-}
-
-// Read until the room is full or nothing is left to read; how many bytes came.
+// Read until the room is full or nothing is left to read; how many bytes came. No `for`: how far a read came, it alone says.
 fn read_full(reader: &mut impl Read, room: &mut [u8]) -> io::Result<usize>
     ensures { IfOk result (λ count. count ≤ length room.old) }
 {
@@ -56,45 +30,28 @@ fn read_full(reader: &mut impl Read, room: &mut [u8]) -> io::Result<usize>
     Ok(count)
 }
 
-// A file read into the room. One that was read whole leaves nothing to read behind it. A path that is no UTF-8 names no file.
-fn fetch(rt: &impl Files, path: &[u8], room: &mut [u8]) -> Fetched
-    ensures { result.count ≤ length room.old }
-{
+// The bytes of a file, read into the room. One that was read whole leaves nothing to read behind it. A path that is no UTF-8 names no
+// file.
+fn fetch<'a>(rt: &impl Files, path: &[u8], room: &'a mut [u8]) -> Option<&'a [u8]> {
     let mut more = [0u8; 1];
     if let Ok(path) = str::from_utf8(path)
         && let Ok(mut file) = fs::open(rt, path)
         && let Ok(count) = read_full(&mut file, room)
         && let Ok(0) = file.read(&mut more)
     {
-        return Fetched {
-            file: File::Whole,
-            count,
-        };
+        return Some(&room[..count]);
     }
-    Fetched {
-        file: File::Missing,
-        count: 0,
-    }
+    None
 }
 
 pub fn run(rt: &(impl Print + Files), rom_path: &[u8], trace_path: &[u8]) -> io::Result<()> {
-    let mut image = image_room();
-    let mut trace = trace_room();
-    let mut ram = ram_room();
-    let mut text = text_room();
-    let rom = fetch(rt, rom_path, &mut image);
-    let records = fetch(rt, trace_path, &mut trace);
-    let of_rom = rom.file;
-    let i = rom.count;
-    let of_records = records.file;
-    let j = records.count;
-    let n = replay_program::write(
-        of_rom,
-        &image[..i],
-        of_records,
-        &trace[..j],
-        &mut ram,
-        &mut text,
-    );
+    // A byte more than the image and the trace may have, so that one too many is seen.
+    let mut rom = room::<32769>();
+    let mut records = room::<16385>();
+    let mut ram = room::<8192>();
+    let mut text = room::<41008>();
+    let image = fetch(rt, rom_path, &mut rom);
+    let trace = fetch(rt, trace_path, &mut records);
+    let n = replay_program::write(image, trace, &mut ram, &mut text);
     rt.write_all(&text[..n])
 }

@@ -1,4 +1,5 @@
 -- How long a record's line is.
+use Rattle.std.specs.Prelude.{Ok, Err, Result}
 use mathlib.Core.List.{List}
 use Prim.Native.Nat.{ℕ, ◌*◌, ◌<◌, ◌≤◌}
 use native.Mathlib.Omega.{arith}
@@ -19,13 +20,8 @@ use Rattle.access.specs.declared.BusRefusal.TheVariants.{Unfit, WrongLength, Bad
 use Rattle.bus.specs.Bus.{read_of, write_of, area_after}
 use Rattle.bus.specs.Advance.{advance_of}
 use Rattle.bus.specs.Run.{Access, reads, writes, clocks, Machine, after_read, after_write, after_clocks, step_of}
-use Rattle.bus.specs.declared.ReadAnswer.{ReadAnswer}
-use Rattle.bus.specs.declared.ReadAnswer.TheVariants as read
-use Rattle.bus.specs.declared.WriteAnswer.{WriteAnswer}
-use Rattle.bus.specs.declared.WriteAnswer.TheVariants as write
-use Rattle.bus.specs.declared.Advanced.{Advanced}
-use Rattle.bus.specs.declared.Advanced.TheVariants as advanced
 use Rattle.replay_step.specs.Step.{access_of, line_of}
+use Rattle.cartridge.specs.declared.Cartridge.{Cartridge}
 
 -- a refusal's number has at most three digits
 length_refused : (n : ℕ) → n < 256 → length (numbered 88 n) ≤ 6
@@ -49,37 +45,37 @@ module _ (rom : List ℕ) (m : Machine) where
   pub line_length : (r : Record) → Narrow r → 2 * length (line_of (access_of r) (step_of rom m (access_of r)).answer) ≤ 5 * size_of r
   line_length (record'.Read addr) h = go (read_of m.cart rom m.area addr)
     where
-      go : (x : ReadAnswer) → 2 * length (line_of (access_of (record'.Read addr)) (after_read m x).answer) ≤ 20
-      go (read.Byte b) = omega (arith, length_addressed 82 addr b)
-      go (read.Refuse w) = omega (arith, length_refused (access.number_of w) (bus_number w))
+      go : (x : Result ℕ BusRefusal) → 2 * length (line_of (access_of (record'.Read addr)) (after_read m x).answer) ≤ 20
+      go (Ok b) = omega (arith, length_addressed 82 addr b)
+      go (Err w) = omega (arith, length_refused (access.number_of w) (bus_number w))
   line_length (record'.Write addr byte) h = go (write_of m.cart m.area addr byte)
     where
-      go : (x : WriteAnswer)
+      go : (x : Result Cartridge BusRefusal)
           → 2 * length
           (line_of (access_of (record'.Write addr byte)) (after_write m x (area_after m.cart m.area addr byte)).answer) ≤ 25
-      go (write.Done c) = omega (arith, length_addressed 87 addr byte)
-      go (write.Refuse w) = omega (arith, length_refused (access.number_of w) (bus_number w))
+      go (Ok c) = omega (arith, length_addressed 87 addr byte)
+      go (Err w) = omega (arith, length_refused (access.number_of w) (bus_number w))
   line_length (record'.Clocks count) h = go (advance_of m.cart count)
     where
-      go : (x : Advanced) → 2 * length (line_of (access_of (record'.Clocks count)) (after_clocks m x).answer) ≤ 30
-      go (advanced.To c) = omega (arith, length_numbered 67 count, length_decimal_32 count h)
-      go (advanced.Refuse w) = omega (arith, length_refused (clock.number_of w) (late_number w))
+      go : (x : Result Cartridge AdvanceRefusal) → 2 * length (line_of (access_of (record'.Clocks count)) (after_clocks m x).answer) ≤ 30
+      go (Ok c) = omega (arith, length_numbered 67 count, length_decimal_32 count h)
+      go (Err w) = omega (arith, length_refused (clock.number_of w) (late_number w))
 
   -- and at least four: every access has a line, answered as it may be
   pub line_there : (a : Access) → 4 ≤ length (line_of a (step_of rom m a).answer)
   line_there (reads addr) = go (read_of m.cart rom m.area addr)
     where
-      go : (x : ReadAnswer) → 4 ≤ length (line_of (reads addr) (after_read m x).answer)
-      go (read.Byte b) = omega (arith, length_addressed 82 addr b)
-      go (read.Refuse w) = numbered_there 88 (access.number_of w)
+      go : (x : Result ℕ BusRefusal) → 4 ≤ length (line_of (reads addr) (after_read m x).answer)
+      go (Ok b) = omega (arith, length_addressed 82 addr b)
+      go (Err w) = numbered_there 88 (access.number_of w)
   line_there (writes addr byte) = go (write_of m.cart m.area addr byte)
     where
-      go : (x : WriteAnswer)
+      go : (x : Result Cartridge BusRefusal)
           → 4 ≤ length (line_of (writes addr byte) (after_write m x (area_after m.cart m.area addr byte)).answer)
-      go (write.Done c) = omega (arith, length_addressed 87 addr byte)
-      go (write.Refuse w) = numbered_there 88 (access.number_of w)
+      go (Ok c) = omega (arith, length_addressed 87 addr byte)
+      go (Err w) = numbered_there 88 (access.number_of w)
   line_there (clocks n) = go (advance_of m.cart n)
     where
-      go : (x : Advanced) → 4 ≤ length (line_of (clocks n) (after_clocks m x).answer)
-      go (advanced.To c) = numbered_there 67 n
-      go (advanced.Refuse w) = numbered_there 88 (clock.number_of w)
+      go : (x : Result Cartridge AdvanceRefusal) → 4 ≤ length (line_of (clocks n) (after_clocks m x).answer)
+      go (Ok c) = numbered_there 67 n
+      go (Err w) = numbered_there 88 (clock.number_of w)

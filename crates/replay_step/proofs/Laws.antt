@@ -1,4 +1,5 @@
 -- A record by its kind, and an access by its answer.
+use Rattle.std.specs.Prelude.{Result}
 use mathlib.Core.List.{List}
 use mathlib.Core.Path.{◌≡◌, sym, ap, ◌∙◌, subst}
 use Prim.Native.Nat.{ℕ, ◌+◌, ◌*◌, ◌≤◌}
@@ -9,8 +10,9 @@ use Rattle.facts.proofs.ChoiceLaws.{coincide}
 use Rattle.digits.specs.Put.{Put}
 use Rattle.digits.proofs.PutLaws.{put_one}
 use Rattle.bus.specs.Run.{Access, Machine, Left, after_write, step_of}
-use Rattle.bus.specs.declared.WriteAnswer.{WriteAnswer}
 use Rattle.replay_step.specs.Step.{access_of, line_of, Did}
+use Rattle.cartridge.specs.declared.Cartridge.{Cartridge}
+use Rattle.access.specs.declared.BusRefusal.{BusRefusal}
 
 -- an access by its answer
 pub did_by : {x y : Left} {a : Access} {s t : List ℕ} {at r : ℕ} {left : Machine} → y ≡ x → left ≡ y.left
@@ -27,8 +29,8 @@ pub did_one : {x : Left} {a : Access} {s t u : List ℕ} {at i j : ℕ} {left ne
 did_one d e = let p = put_one d.line e.line in (coincide d.leaves e.leaves, p.0, p.1)
 
 -- a write by its answer and the area
-pub wrote : (m : Machine) {r x : WriteAnswer} {area a : List ℕ} → r ≡ x → area ≡ a → after_write m r area ≡ after_write m x a
-wrote m {r} {x} {area} {a} e f = ap (λ (t : WriteAnswer). after_write m t area) e ∙ ap (after_write m x) f
+pub wrote : (m : Machine) {r x : Result Cartridge BusRefusal} {area a : List ℕ} → r ≡ x → area ≡ a → after_write m r area ≡ after_write m x a
+wrote m {r} {x} {area} {a} e f = ap (λ (t : Result Cartridge BusRefusal). after_write m t area) e ∙ ap (after_write m x) f
 
 -- a record by its kind: its line has at most k bytes
 pub stepped : (rom : List ℕ) (m : Machine) (k : ℕ) {r q : Record} {s t : List ℕ} {at n : ℕ} {left : Machine} → r ≡ q

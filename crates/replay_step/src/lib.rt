@@ -9,7 +9,6 @@ ghost use Rattle.digits.specs.Put.{Put};
 ghost use Rattle.lines.specs.Lines.{numbered};
 ghost use Rattle.replay_step.specs.Step.{access_of, machine, Did};
 
-use bus::{Advanced, ReadAnswer, WriteAnswer};
 use cartridge::Cartridge;
 use trace::Record;
 
@@ -36,8 +35,8 @@ fn read(cart: Cartridge, rom: &[u8], ram: &[u8], room: &mut [u8], at: usize, add
     ensures upper_bound { result ≤ at + 10 }
 {
     match bus::read(cart, rom, ram, addr) {
-        ReadAnswer::Byte(byte) => lines::put_addressed(room, at, b'R', addr, byte),
-        ReadAnswer::Refuse(why) => put_refused(room, at, why.number()),
+        Ok(byte) => lines::put_addressed(room, at, b'R', addr, byte),
+        Err(why) => put_refused(room, at, why.number()),
     }
 }
 
@@ -55,11 +54,11 @@ fn write(
     ensures end_bound { result.end ≤ at + 10 }
 {
     match bus::write(cart, ram, addr, byte) {
-        WriteAnswer::Done(next) => Reached {
+        Ok(next) => Reached {
             cart: next,
             end: lines::put_addressed(room, at, b'W', addr, byte),
         },
-        WriteAnswer::Refuse(why) => Reached {
+        Err(why) => Reached {
             cart,
             end: put_refused(room, at, why.number()),
         },
@@ -73,11 +72,11 @@ fn advance(cart: Cartridge, room: &mut [u8], at: usize, count: u32) -> Reached
     ensures end_bound { result.end ≤ at + 13 }
 {
     match bus::advance(cart, count as u64) {
-        Advanced::To(next) => Reached {
+        Ok(next) => Reached {
             cart: next,
             end: lines::put_numbered(room, at, b'C', count as u64),
         },
-        Advanced::Refuse(why) => Reached {
+        Err(why) => Reached {
             cart,
             end: put_refused(room, at, why.number()),
         },

@@ -1,4 +1,5 @@
 -- The loop over the records: what is still to be done at each turn.
+use Rattle.std.specs.Prelude.{Ok, Err, Some, None}
 use mathlib.Core.List.{List}
 use mathlib.Core.Path.{◌≡◌, refl, sym, ap, ◌∙◌, subst}
 use Prim.Native.Nat.{ℕ, ◌+◌, ◌-◌, ◌*◌, ◌≤◌, ◌<◌, zero-le}
@@ -8,7 +9,6 @@ use lib.Seq.{sets}
 use Rattle.trace.specs.Trace.{size_of, refused, record_at, records_from}
 use Rattle.trace.specs.declared.Record.{Record}
 use Rattle.trace.specs.declared.TraceRefusal.{TraceRefusal}
-use Rattle.trace.specs.declared.Next.TheVariants.{Found, End, Refuse}
 use Rattle.trace.proofs.Records.{after_found, size_bounds}
 use Rattle.digits.specs.Put.{Put, Rest}
 use Rattle.digits.proofs.Laws.{length_decimal_64}
@@ -59,7 +59,7 @@ going_start rom trace room m h =
 
 module _ {rom trace room₀ text : List ℕ} {left : Machine} {size : ℕ} {m : Machine} {room : List ℕ} {at end count : ℕ}
     (g : Going rom trace room₀ text left size m room at end count) where
-  pub going_found : {after n : ℕ} {r : Record} {t : List ℕ} {next : Machine} → record_at trace at ≡ Found r after
+  pub going_found : {after n : ℕ} {r : Record} {t : List ℕ} {next : Machine} → record_at trace at ≡ Ok (Some (r, after))
       → Did (step_of rom m (access_of r)) (access_of r) room end next t n → 2 * n ≤ 2 * end + 5 * size_of r
       → length next.area ≡ length m.area → Going rom trace room₀ text left size next t after n (count + 1)
   going_found {after} {n} {r} {t} {next} e d h l =
@@ -100,7 +100,7 @@ module _ {rom trace room₀ text : List ℕ} {left : Machine} {size : ℕ} {m : 
       )
 
   -- at the trace's end
-  pub going_end : {n : ℕ} {t : List ℕ} → record_at trace at ≡ End → Put room end (end_line count) t n
+  pub going_end : {n : ℕ} {t : List ℕ} → record_at trace at ≡ Ok None → Put room end (end_line count) t n
       → (m ≡ left) × Put room₀ 0 text t n
   going_end e p = (
     sym (left_end rom m count trace at e) ∙ g.leaves,
@@ -108,7 +108,7 @@ module _ {rom trace room₀ text : List ℕ} {left : Machine} {size : ℕ} {m : 
   )
 
   -- at a record refused
-  pub going_refused : {n k : ℕ} {s t : List ℕ} {w : TraceRefusal} → record_at trace at ≡ Refuse w
+  pub going_refused : {n k : ℕ} {s t : List ℕ} {w : TraceRefusal} → record_at trace at ≡ Err w
       → Put room end (stop_line (refused w)) s n → Put s n (end_line count) t k → (m ≡ left) × Put room₀ 0 text t k
   going_refused {w = w} e p q = (
     sym (left_refused rom m count trace at e) ∙ g.leaves,

@@ -1,4 +1,5 @@
 -- The replay by what stands at a place of the trace.
+use Rattle.std.specs.Prelude.{Ok, Err, Some, None}
 use mathlib.Core.List.{List, ◌++◌, append_assoc}
 use mathlib.Core.Path.{◌≡◌, refl, ap, ◌∙◌}
 use Prim.Native.Nat.{ℕ, suc, ◌+◌}
@@ -8,7 +9,6 @@ use lib.ListN.{length}
 use Rattle.trace.specs.Trace.{refused, record_at, Records, records_from, records_of}
 use Rattle.trace.specs.declared.Record.{Record}
 use Rattle.trace.specs.declared.TraceRefusal.{TraceRefusal}
-use Rattle.trace.specs.declared.Next.TheVariants.{Found, End, Refuse}
 use Rattle.trace.proofs.Records.{from_record, from_end, from_refused}
 use Rattle.lines.specs.Lines.{end_line}
 use Rattle.bus.specs.Run.{Machine, step_of}
@@ -21,7 +21,7 @@ abbrev pub text_by : List ℕ → Machine → ℕ → Records → List ℕ
 text_by rom m k rs = lines_by rom m rs ++ (stop_line rs.stop ++ end_line (k + length rs.records))
 
 module _ (rom : List ℕ) (m : Machine) (k : ℕ) (s : List ℕ) (at : ℕ) where
-  pub text_found : {after : ℕ} {r : Record} → record_at s at ≡ Found r after
+  pub text_found : {after : ℕ} {r : Record} → record_at s at ≡ Ok (Some (r, after))
       → text_by rom m k (records_from s at)
       ≡ line_of (access_of r) (step_of rom m (access_of r)).answer
       ++ text_by rom (step_of rom m (access_of r)).left (k + 1) (records_from s after)
@@ -34,22 +34,22 @@ module _ (rom : List ℕ) (m : Machine) (k : ℕ) (s : List ℕ) (at : ℕ) wher
       (stop_line rs.stop ++ end_line (k + suc (length rs.records)))
       ∙ ap (λ (j : ℕ). line_of (access_of r) x.answer ++ (lines_by rom x.left rs ++ (stop_line rs.stop ++ end_line j))) n
 
-  pub text_end : record_at s at ≡ End → text_by rom m k (records_from s at) ≡ end_line k
+  pub text_end : record_at s at ≡ Ok None → text_by rom m k (records_from s at) ≡ end_line k
   text_end e = ap (text_by rom m k) (from_end s at e) ∙ ap end_line (add-zero k)
 
-  pub text_refused : {w : TraceRefusal} → record_at s at ≡ Refuse w
+  pub text_refused : {w : TraceRefusal} → record_at s at ≡ Err w
       → text_by rom m k (records_from s at) ≡ stop_line (refused w) ++ end_line k
   text_refused {w} e =
       ap (text_by rom m k) (from_refused s at e) ∙ ap (λ (j : ℕ). stop_line (refused w) ++ end_line j) (add-zero k)
 
-  pub left_found : {after : ℕ} {r : Record} → record_at s at ≡ Found r after
+  pub left_found : {after : ℕ} {r : Record} → record_at s at ≡ Ok (Some (r, after))
       → left_by rom m (records_from s at) ≡ left_by rom (step_of rom m (access_of r)).left (records_from s after)
   left_found e = ap (left_by rom m) (from_record s at e)
 
-  pub left_end : record_at s at ≡ End → left_by rom m (records_from s at) ≡ m
+  pub left_end : record_at s at ≡ Ok None → left_by rom m (records_from s at) ≡ m
   left_end e = ap (left_by rom m) (from_end s at e)
 
-  pub left_refused : {w : TraceRefusal} → record_at s at ≡ Refuse w → left_by rom m (records_from s at) ≡ m
+  pub left_refused : {w : TraceRefusal} → record_at s at ≡ Err w → left_by rom m (records_from s at) ≡ m
   left_refused e = ap (left_by rom m) (from_refused s at e)
 
 pub text_whole : (rom : List ℕ) (m : Machine) (s : List ℕ) → text_by rom m 0 (records_from s 0) ≡ text_of rom m s

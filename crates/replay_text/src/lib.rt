@@ -9,9 +9,9 @@ ghost use Rattle.replay_text.specs.Replay.{room_for, left_of, text_of};
 
 use cartridge::Cartridge;
 use replay_step::Reached;
-use trace::Next;
 
-// The records from the trace's start on, then why the reading stopped, then their number.
+// The records from the trace's start on, then why the reading stopped, then their number. No `for` over the records: what ends
+// them is written too.
 pub fn run(start: Cartridge, rom: &[u8], ram: &mut [u8], trace: &[u8], room: &mut [u8]) -> Reached
     requires { room_for (length trace.now) ≤ length room.old }
     ensures ram_after { machine result.cart ram.new
@@ -26,20 +26,20 @@ pub fn run(start: Cartridge, rom: &[u8], ram: &mut [u8], trace: &[u8], room: &mu
     let mut count: usize = 0;
     loop {
         match trace::next_record(trace, at) {
-            Next::Found(asked, after) => {
+            Ok(Some((asked, after))) => {
                 let reached = replay_step::step(cart, rom, ram, room, end, asked);
                 cart = reached.cart;
                 end = reached.end;
                 at = after;
                 count += 1;
             }
-            Next::End => {
+            Ok(None) => {
                 return Reached {
                     cart,
                     end: lines::put_end(room, end, count as u64),
                 };
             }
-            Next::Refuse(why) => {
+            Err(why) => {
                 let stopped = lines::put_numbered(room, end, b'T', why.place() as u64);
                 return Reached {
                     cart,

@@ -1,4 +1,5 @@
 -- Accepted calls, taken apart: what they relied on, what they leave fit, and that they change at most one byte.
+use Rattle.std.specs.Prelude.{Ok, Err, Some, None, Result}
 use mathlib.Core.Bool.{Bool, true, false, not}
 use mathlib.Core.List.{List, [], ◌∷◌, ◌++◌}
 use mathlib.Core.Logic.{◌⊎◌, inl, inr}
@@ -15,7 +16,6 @@ use Rattle.facts.specs.Refusals.{No, no, first_no}
 use Rattle.facts.proofs.ChoiceLaws.{both_parts, both_true, not_false, pick_has}
 use Rattle.facts.proofs.RefusalLaws.{first_map}
 use Rattle.facts.proofs.ListLaws.{part_set}
-use Rattle.banking.specs.declared.RamAt.TheVariants.{At, NotMapped}
 use Rattle.mbc2.specs.Registers as mbc2
 use Rattle.clock.specs.declared.AdvanceRefusal.TheVariants as clock
 use Rattle.image.specs.Image.{padded_length}
@@ -23,9 +23,8 @@ use Rattle.image.proofs.ImageLaws.{padded_le}
 use Rattle.header.specs.Check.{check_of}
 use Rattle.header.specs.Accepted.{Fitting}
 use Rattle.header.specs.declared.Facts.{Facts}
-use Rattle.header.specs.declared.Checked.{Checked}
-use Rattle.header.specs.declared.Checked.TheVariants as checked
 use Rattle.header.proofs.AcceptedLaws.{accepted_fits}
+use Rattle.header.specs.declared.HeaderRefusal.{HeaderRefusal}
 use Rattle.mapper.specs.Mappers as mapper
 use Rattle.mapper.specs.declared.Mapper.{Mapper}
 use Rattle.window.specs.Window as window
@@ -35,20 +34,16 @@ use Rattle.cartridge.specs.Fit.{bank_counts, fit_board, fit_cart, area_of}
 use Rattle.cartridge.specs.declared.Cartridge.{Cartridge}
 use Rattle.cartridge.proofs.Laws.{fit_board_lem, fit_registers_lem}
 use Rattle.mount.specs.Mount.{cart_of, area_in, asked_by, area_for, mount_by, mount_of}
-use Rattle.mount.specs.declared.Area.TheVariants as area
 use Rattle.mount.proofs.Laws.{asked_is_area}
 use Rattle.mount.specs.declared.MountRefusal.TheVariants.{WrongArea}
-use Rattle.mount.specs.declared.Mounted.TheVariants as mounted
 use Rattle.access.specs.Verdict.{in_rom, noes, verdict_of}
 use Rattle.cartridge.specs.With.{with_mapper}
 use Rattle.bus.specs.Bus.{lent_area, write_verdict, write_by, area_by, write_of, area_after}
 use Rattle.bus.specs.Advance.{advance_of}
 use Rattle.access.specs.declared.BusRefusal.{BusRefusal}
-use Rattle.access.specs.declared.Verdict.{Verdict}
-use Rattle.access.specs.declared.Verdict.TheVariants.{Rom, Ram, Refuse}
-use Rattle.bus.specs.declared.WriteAnswer.TheVariants as write
-use Rattle.bus.specs.declared.Advanced.TheVariants as advanced
 use Rattle.access.proofs.Laws.{rom_window, taken_fit, taken_lent}
+use Rattle.access.specs.declared.Target.{Target}
+use Rattle.access.specs.declared.Target.TheVariants.{Rom, Ram}
 use Rattle.runs.specs.Calls.{AtMostOne}
 use Rattle.runs.proofs.MapperLaws as kept
 
@@ -72,31 +67,31 @@ pub record TakenWrite (c d : Cartridge) (ram : List ℕ) (addr byte : ℕ) : Typ
   pub is : d ≡ with_mapper c next
   pub way : (next ≡ mapper.written c.mapper addr byte) ⊎ (next ≡ window.mapper_after c.mapper c.size addr byte)
 
-pub write_taken : (c d : Cartridge) (ram : List ℕ) (addr byte : ℕ) → write_of c ram addr byte ≡ write.Done d
+pub write_taken : (c d : Cartridge) (ram : List ℕ) (addr byte : ℕ) → write_of c ram addr byte ≡ Ok d
     → TakenWrite c d ram addr byte
 unfolding write_of write_verdict
 write_taken c d ram addr byte e = go (write_verdict c ram addr byte) refl e
   where
-    go : (v : Verdict) → write_verdict c ram addr byte ≡ v → write_by c addr byte v ≡ write.Done d → TakenWrite c d ram addr byte
-    go Rom p q =
+    go : (v : Result Target BusRefusal) → write_verdict c ram addr byte ≡ v → write_by c addr byte v ≡ Ok d → TakenWrite c d ram addr byte
+    go (Ok Rom) p q =
         record {
-          fit = taken_fit c (lent_area c (length ram)) addr (mapper.bad_selection c.mapper addr byte) Rom p refl;
-          lent = eqb-true _ _ (taken_lent c (lent_area c (length ram)) addr (mapper.bad_selection c.mapper addr byte) Rom p refl);
+          fit = taken_fit c (lent_area c (length ram)) addr (mapper.bad_selection c.mapper addr byte) (Ok Rom) p refl;
+          lent = eqb-true _ _ (taken_lent c (lent_area c (length ram)) addr (mapper.bad_selection c.mapper addr byte) (Ok Rom) p refl);
           next = mapper.written c.mapper addr byte;
           is = cc;
           way = inl refl;
         }
-    go Ram p q =
+    go (Ok Ram) p q =
         record {
-          fit = taken_fit c (lent_area c (length ram)) addr (mapper.bad_selection c.mapper addr byte) Ram p refl;
-          lent = eqb-true _ _ (taken_lent c (lent_area c (length ram)) addr (mapper.bad_selection c.mapper addr byte) Ram p refl);
+          fit = taken_fit c (lent_area c (length ram)) addr (mapper.bad_selection c.mapper addr byte) (Ok Ram) p refl;
+          lent = eqb-true _ _ (taken_lent c (lent_area c (length ram)) addr (mapper.bad_selection c.mapper addr byte) (Ok Ram) p refl);
           next = window.mapper_after c.mapper c.size addr byte;
           is = cc;
           way = inr refl;
         }
-    go (Refuse w) p q = let z : ◌≡◌ {A = ℕ} 0 1 = cc in absurd (omega arith)
+    go (Err w) p q = let z : ◌≡◌ {A = ℕ} 0 1 = cc in absurd (omega arith)
 
-pub write_fit : (c d : Cartridge) (ram : List ℕ) (addr byte : ℕ) → byte < 256 → write_of c ram addr byte ≡ write.Done d
+pub write_fit : (c d : Cartridge) (ram : List ℕ) (addr byte : ℕ) → byte < 256 → write_of c ram addr byte ≡ Ok d
     → fit_cart d ≡ true
 write_fit c d ram addr byte l e = let t = write_taken c d ram addr byte e in ap fit_cart t.is ∙ go t.next t.way t.fit
   where
@@ -109,7 +104,7 @@ write_fit c d ram addr byte l e = let t = write_taken c d ram addr byte e in ap 
         ap (λ (x : Mapper). fit_cart (with_mapper c x)) p
         ∙ fit_with c _ fit (kept.window_same c.mapper c.size addr byte) (kept.window_fit c.mapper c.size addr byte l)
 
-pub write_area_stays : (c d : Cartridge) (ram : List ℕ) (addr byte : ℕ) → write_of c ram addr byte ≡ write.Done d
+pub write_area_stays : (c d : Cartridge) (ram : List ℕ) (addr byte : ℕ) → write_of c ram addr byte ≡ Ok d
     → area_of d ≡ area_of c
 write_area_stays c d ram addr byte e = let t = write_taken c d ram addr byte e in ap area_of t.is ∙ go t.next t.way
   where
@@ -125,18 +120,18 @@ pub record TakenAdvance (c d : Cartridge) (n : ℕ) : Type 0 where
   pub early : mapper.late c.mapper n ≡ false
   pub is : d ≡ with_mapper c (mapper.clocks_on c.mapper n)
 
-pub advance_taken : (c d : Cartridge) (n : ℕ) → advance_of c n ≡ advanced.To d → TakenAdvance c d n
+pub advance_taken : (c d : Cartridge) (n : ℕ) → advance_of c n ≡ Ok d → TakenAdvance c d n
 unfolding advance_of
 advance_taken c d n e = go (not (fit_cart c)) (mapper.late c.mapper n) refl refl e
   where
     go : (t u : Bool) → not (fit_cart c) ≡ t → mapper.late c.mapper n ≡ u
-        → first_no advanced.Refuse (no t clock.Unfit ∷ no u clock.Late ∷ [])
-        (advanced.To (with_mapper c (mapper.clocks_on c.mapper n))) ≡ advanced.To d → TakenAdvance c d n
+        → first_no Err (no t clock.Unfit ∷ no u clock.Late ∷ [])
+        (Ok (with_mapper c (mapper.clocks_on c.mapper n))) ≡ Ok d → TakenAdvance c d n
     go true u p q r = let z : ◌≡◌ {A = ℕ} 0 1 = cc in absurd (omega arith)
     go false true p q r = let z : ◌≡◌ {A = ℕ} 0 1 = cc in absurd (omega arith)
     go false false p q r = record { fit = not_false (fit_cart c) p; early = q; is = cc }
 
-pub advance_fit : (c d : Cartridge) (n : ℕ) → advance_of c n ≡ advanced.To d → fit_cart d ≡ true
+pub advance_fit : (c d : Cartridge) (n : ℕ) → advance_of c n ≡ Ok d → fit_cart d ≡ true
 advance_fit c d n e =
     let t = advance_taken c d n e in
     ap fit_cart t.is
@@ -182,28 +177,28 @@ started_fit s d wall f =
 
 pub record TakenMount (image ram : List ℕ) (wall : ℕ) (c : Cartridge) : Type 0 where
   pub facts : Facts
-  pub accepted : check_of image ≡ checked.Accept facts
+  pub accepted : check_of image ≡ Ok facts
   pub is : c ≡ cart_of facts (length image) wall
   pub lent : length ram ≡ area_of c
 
-pub mount_taken : (image ram : List ℕ) (wall : ℕ) (c : Cartridge) → mount_of image ram wall ≡ mounted.To c
+pub mount_taken : (image ram : List ℕ) (wall : ℕ) (c : Cartridge) → mount_of image ram wall ≡ Ok c
     → TakenMount image ram wall c
 unfolding mount_of
 mount_taken image ram wall c e = go (check_of image) refl e
   where
-    go : (k : Checked) → check_of image ≡ k → mount_by k (length image) (length ram) wall ≡ mounted.To c → TakenMount image ram wall c
-    go (checked.Accept d) p q = area (eqb (length ram) (area_of (cart_of d (length image) wall))) refl q
+    go : (k : Result Facts HeaderRefusal) → check_of image ≡ k → mount_by k (length image) (length ram) wall ≡ Ok c → TakenMount image ram wall c
+    go (Ok d) p q = area (eqb (length ram) (area_of (cart_of d (length image) wall))) refl q
       where
         area : (t : Bool) → eqb (length ram) (area_of (cart_of d (length image) wall)) ≡ t
-            → pick t (mounted.To (cart_of d (length image) wall)) (mounted.Refuse WrongArea) ≡ mounted.To c
+            → pick t (Ok (cart_of d (length image) wall)) (Err WrongArea) ≡ Ok c
             → TakenMount image ram wall c
         area true h r =
             let i : cart_of d (length image) wall ≡ c = cc in
             record { facts = d; accepted = p; is = sym i; lent = eqb-true _ _ h ∙ ap area_of i }
         area false h r = let z : ◌≡◌ {A = ℕ} 0 1 = cc in absurd (omega arith)
-    go (checked.Refuse w) p q = let z : ◌≡◌ {A = ℕ} 0 1 = cc in absurd (omega arith)
+    go (Err w) p q = let z : ◌≡◌ {A = ℕ} 0 1 = cc in absurd (omega arith)
 
-pub mount_fit : (image ram : List ℕ) (wall : ℕ) (c : Cartridge) → mount_of image ram wall ≡ mounted.To c → fit_cart c ≡ true
+pub mount_fit : (image ram : List ℕ) (wall : ℕ) (c : Cartridge) → mount_of image ram wall ≡ Ok c → fit_cart c ≡ true
 mount_fit image ram wall c e =
     let t = mount_taken image ram wall c e in
     ap fit_cart t.is ∙ started_fit image t.facts wall (accepted_fits image t.facts t.accepted)
@@ -219,8 +214,8 @@ half_one m size ram addr byte =
     (inl (take-append-drop size ram))
 
 way_one : (w : Way) (size : ℕ) (ram : List ℕ) (addr byte : ℕ) → AtMostOne ram (window.area_by w size ram addr byte)
-way_one (Bytes (At i)) size ram addr byte = inr (record { place = i; byte = byte; is = refl })
-way_one (Bytes NotMapped) size ram addr byte = inl refl
+way_one (Bytes (Some i)) size ram addr byte = inr (record { place = i; byte = byte; is = refl })
+way_one (Bytes None) size ram addr byte = inl refl
 way_one (Half m) size ram addr byte = half_one m size ram addr byte
 way_one (Timer m) size ram addr byte = inl refl
 
@@ -228,28 +223,28 @@ pub write_one : (c : Cartridge) (ram : List ℕ) (addr byte : ℕ) → AtMostOne
 unfolding area_after window.area_after
 write_one c ram addr byte = go (write_verdict c ram addr byte)
   where
-    go : (v : Verdict) → AtMostOne ram (area_by c ram addr byte v)
-    go Rom = inl refl
-    go Ram = way_one (window.way_of c.mapper c.size addr) c.size ram addr byte
-    go (Refuse w) = inl refl
+    go : (v : Result Target BusRefusal) → AtMostOne ram (area_by c ram addr byte v)
+    go (Ok Rom) = inl refl
+    go (Ok Ram) = way_one (window.way_of c.mapper c.size addr) c.size ram addr byte
+    go (Err w) = inl refl
 
-pub refused_area : (c : Cartridge) (ram : List ℕ) (addr byte : ℕ) (w : BusRefusal) → write_of c ram addr byte ≡ write.Refuse w
+pub refused_area : (c : Cartridge) (ram : List ℕ) (addr byte : ℕ) (w : BusRefusal) → write_of c ram addr byte ≡ Err w
     → area_after c ram addr byte ≡ ram
 unfolding write_of area_after
 refused_area c ram addr byte w e = go (write_verdict c ram addr byte) e
   where
-    go : (v : Verdict) → write_by c addr byte v ≡ write.Refuse w → area_by c ram addr byte v ≡ ram
-    go Rom p = let z : ◌≡◌ {A = ℕ} 0 1 = cc in absurd (omega arith)
-    go Ram p = let z : ◌≡◌ {A = ℕ} 0 1 = cc in absurd (omega arith)
-    go (Refuse x) p = refl
+    go : (v : Result Target BusRefusal) → write_by c addr byte v ≡ Err w → area_by c ram addr byte v ≡ ram
+    go (Ok Rom) p = let z : ◌≡◌ {A = ℕ} 0 1 = cc in absurd (omega arith)
+    go (Ok Ram) p = let z : ◌≡◌ {A = ℕ} 0 1 = cc in absurd (omega arith)
+    go (Err x) p = refl
 
 -- an access below 0x8000 is not to the RAM window
 pub register_area : (c : Cartridge) (ram : List ℕ) (addr byte : ℕ) → addr < 0x8000 → area_after c ram addr byte ≡ ram
 unfolding area_after write_verdict verdict_of noes
 register_area c ram addr byte h =
-    first_map (area_by c ram addr byte) Refuse (noes c (lent_area c (length ram)) addr (mapper.bad_selection c.mapper addr byte)) (pick (in_rom addr) Rom Ram)
+    first_map (area_by c ram addr byte) Err (noes c (lent_area c (length ram)) addr (mapper.bad_selection c.mapper addr byte)) (pick (in_rom addr) (Ok Rom) (Ok Ram))
     ∙ same (noes c (lent_area c (length ram)) addr (mapper.bad_selection c.mapper addr byte))
-    (ap (λ (t : Bool). area_by c ram addr byte (pick t Rom Ram)) (rom_window addr h))
+    (ap (λ (t : Bool). area_by c ram addr byte (pick t (Ok Rom) (Ok Ram))) (rom_window addr h))
   where
     same : (ts : List (No BusRefusal)) {x : List ℕ} → x ≡ ram → first_no (λ w. ram) ts x ≡ ram
     same [] e = e
@@ -261,14 +256,14 @@ one_length s t (inr p) = ap length p.is ∙ length-set s p.place p.byte
 
 -- ---- the area that is asked for
 
-pub asked_mounts : (image ram : List ℕ) (wall : ℕ) (d : Facts) → check_of image ≡ checked.Accept d
-    → area_for image ≡ area.Bytes (length ram) → mount_of image ram wall ≡ mounted.To (cart_of d (length image) wall)
+pub asked_mounts : (image ram : List ℕ) (wall : ℕ) (d : Facts) → check_of image ≡ Ok d
+    → area_for image ≡ Ok (length ram) → mount_of image ram wall ≡ Ok (cart_of d (length image) wall)
 unfolding mount_of area_for cart_of
 asked_mounts image ram wall d e asked =
     let n : area_in d.kind d.size ≡ length ram = bytes_same (sym (ap asked_by e) ∙ asked) in
-    ap (λ (x : Checked). mount_by x (length image) (length ram) wall) e
-    ∙ ap (λ (t : Bool). pick t (mounted.To (cart_of d (length image) wall)) (mounted.Refuse WrongArea))
+    ap (λ (x : Result Facts HeaderRefusal). mount_by x (length image) (length ram) wall) e
+    ∙ ap (λ (t : Bool). pick t (Ok (cart_of d (length image) wall)) (Err WrongArea))
     (eq-eqb _ _ (sym n ∙ asked_is_area d.kind d.multicart wall d.size))
   where
-    bytes_same : {m n : ℕ} → area.Bytes m ≡ area.Bytes n → m ≡ n
+    bytes_same : {m n : ℕ} → ◌≡◌ {A = Result ℕ HeaderRefusal} (Ok m) (Ok n) → m ≡ n
     bytes_same p = cc

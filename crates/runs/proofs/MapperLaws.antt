@@ -1,4 +1,5 @@
 -- Writes, clocks and the start leave a mapper fit and within its limits; the clock that is in it.
+use Rattle.std.specs.Prelude.{Some, None}
 use mathlib.Core.Bool.{Bool, true, false, not}
 use mathlib.Core.Path.{◌≡◌, refl, sym, ap, ◌∙◌}
 use Prim.Native.Nat.{ℕ, ◌<◌}
@@ -29,7 +30,6 @@ use Rattle.mapper.specs.declared.Mapper.TheVariants.{NoMapper, Mbc1, Mbc2, Mbc3,
 use Rattle.window.specs.Window.{mapper_by, mapper_after}
 use Rattle.window.specs.declared.Way.{Way}
 use Rattle.battery.specs.Battery.{clock_in, has_clock, with_clock}
-use Rattle.battery.specs.declared.Timer.TheVariants as timer
 use Rattle.mount.specs.Mount.{start_of}
 
 -- ---- fit registers
@@ -148,33 +148,33 @@ start_holds kind.Mbc7 multicart wall banks size s b m = false≢true s
 
 -- ---- the clock in a mapper
 
-pub clock_fits : (m : Mapper) (k : Clock) → clock_in m ≡ timer.Clock k → fit_registers m ≡ true → fit_clock k ≡ true
+pub clock_fits : (m : Mapper) (k : Clock) → clock_in m ≡ Some k → fit_registers m ≡ true → fit_clock k ≡ true
 unfolding mbc3.fit_registers
 clock_fits (NoMapper m) k e f = let z : ◌≡◌ {A = ℕ} 0 1 = cc in absurd (omega arith)
 clock_fits (Mbc1 m) k e f = let z : ◌≡◌ {A = ℕ} 0 1 = cc in absurd (omega arith)
 clock_fits (Mbc2 m) k e f = let z : ◌≡◌ {A = ℕ} 0 1 = cc in absurd (omega arith)
 clock_fits (Mbc3 m) k e f = go m.timer e (both_right (both (from_one 255 m.bank) (leb m.ram 3)) _ f)
   where
-    go : (t : Bool) → pick t (timer.Clock m.clock) timer.Nothing ≡ timer.Clock k
+    go : (t : Bool) → pick t (Some m.clock) None ≡ Some k
         → either (not t) (both (leb m.register 4) (fit_clock m.clock)) ≡ true → fit_clock k ≡ true
     go true p q = let same : m.clock ≡ k = cc in ap fit_clock (sym same) ∙ both_right (leb m.register 4) (fit_clock m.clock) q
     go false p q = let z : ◌≡◌ {A = ℕ} 0 1 = cc in absurd (omega arith)
 clock_fits (Mbc5 m) k e f = let z : ◌≡◌ {A = ℕ} 0 1 = cc in absurd (omega arith)
 
-pub clock_with_lem : (m : Mapper) (w : Clock) → has_clock (clock_in m) ≡ true → clock_in (with_clock m w) ≡ timer.Clock w
+pub clock_with_lem : (m : Mapper) (w : Clock) → has_clock (clock_in m) ≡ true → clock_in (with_clock m w) ≡ Some w
 clock_with_lem (NoMapper m) w e = false≢true e
 clock_with_lem (Mbc1 m) w e = false≢true e
 clock_with_lem (Mbc2 m) w e = false≢true e
 clock_with_lem (Mbc3 m) w e = go m.timer e
   where
-    go : (t : Bool) → has_clock (pick t (timer.Clock m.clock) timer.Nothing) ≡ true
-        → pick t (timer.Clock w) timer.Nothing ≡ timer.Clock w
+    go : (t : Bool) → has_clock (pick t (Some m.clock) None) ≡ true
+        → pick t (Some w) None ≡ Some w
     go true p = refl
     go false p = false≢true p
 clock_with_lem (Mbc5 m) w e = false≢true e
 
 -- an advance of a mapper with a clock is the clock's
-pub clock_moves : (m : Mapper) (k : Clock) (n : ℕ) → clock_in m ≡ timer.Clock k
+pub clock_moves : (m : Mapper) (k : Clock) (n : ℕ) → clock_in m ≡ Some k
     → (late m n ≡ ticking.late k n) × (clocks_on m n ≡ with_clock m (ticking.ticks n k))
 unfolding timer-specs.clocks_on
 clock_moves (NoMapper m) k n e = let z : ◌≡◌ {A = ℕ} 0 1 = cc in absurd (omega arith)
@@ -182,7 +182,7 @@ clock_moves (Mbc1 m) k n e = let z : ◌≡◌ {A = ℕ} 0 1 = cc in absurd (ome
 clock_moves (Mbc2 m) k n e = let z : ◌≡◌ {A = ℕ} 0 1 = cc in absurd (omega arith)
 clock_moves (Mbc3 m) k n e = go m.timer e
   where
-    go : (t : Bool) → pick t (timer.Clock m.clock) timer.Nothing ≡ timer.Clock k
+    go : (t : Bool) → pick t (Some m.clock) None ≡ Some k
         → (both t (ticking.late m.clock n) ≡ ticking.late k n)
         × (Mbc3 (pick t (mbc3.with_clock m (ticking.ticks n m.clock)) m) ≡ Mbc3 (mbc3.with_clock m (ticking.ticks n k)))
     go true p =
@@ -194,14 +194,14 @@ clock_moves (Mbc3 m) k n e = go m.timer e
 clock_moves (Mbc5 m) k n e = let z : ◌≡◌ {A = ℕ} 0 1 = cc in absurd (omega arith)
 
 -- and without one it stands
-pub no_clock_stands : (m : Mapper) (n : ℕ) → clock_in m ≡ timer.Nothing → (late m n ≡ false) × (clocks_on m n ≡ m)
+pub no_clock_stands : (m : Mapper) (n : ℕ) → clock_in m ≡ None → (late m n ≡ false) × (clocks_on m n ≡ m)
 unfolding timer-specs.clocks_on
 no_clock_stands (NoMapper m) n e = (refl, refl)
 no_clock_stands (Mbc1 m) n e = (refl, refl)
 no_clock_stands (Mbc2 m) n e = (refl, refl)
 no_clock_stands (Mbc3 m) n e = go m.timer e
   where
-    go : (t : Bool) → pick t (timer.Clock m.clock) timer.Nothing ≡ timer.Nothing
+    go : (t : Bool) → pick t (Some m.clock) None ≡ None
         → (both t (ticking.late m.clock n) ≡ false)
         × (Mbc3 (pick t (mbc3.with_clock m (ticking.ticks n m.clock)) m) ≡ Mbc3 m)
     go true p = let z : ◌≡◌ {A = ℕ} 0 1 = cc in absurd (omega arith)

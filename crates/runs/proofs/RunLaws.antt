@@ -1,5 +1,6 @@
 -- Sequences of accesses: the calls give what `run_of` says, and a cartridge that was mounted and lent its own image and area
 -- stays fit and its area as long.
+use Rattle.std.specs.Prelude.{Ok, Err, Result}
 use mathlib.Core.Bool.{Bool, true, false, not}
 use mathlib.Core.List.{List, [], ◌∷◌}
 use mathlib.Core.Path.{◌≡◌, refl, sym, ap, ◌∙◌, subst}
@@ -10,28 +11,23 @@ use borrow.Author.Tests.{eq-eqb}
 use Rattle.facts.specs.Refusals.{no, first_no}
 use Rattle.facts.proofs.ChoiceLaws.{false≢true, both_true}
 use Rattle.clock.specs.declared.AdvanceRefusal.TheVariants as late
+use Rattle.clock.specs.declared.AdvanceRefusal.{AdvanceRefusal}
 use Rattle.mapper.specs.Mappers as mapper
 use Rattle.cartridge.specs.Fit.{fit_cart, area_of}
 use Rattle.cartridge.specs.declared.Cartridge.{Cartridge}
 use Rattle.mount.specs.Mount as mount
 use Rattle.mount.specs.Mount.{cart_of, mount_of}
-use Rattle.mount.specs.declared.Mounted.{Mounted}
-use Rattle.mount.specs.declared.Mounted.TheVariants as mounted
+use Rattle.mount.specs.declared.MountRefusal.{MountRefusal}
 use Rattle.access.specs.Verdict.{number_of, in_rom, in_ram, verdict_of}
 use Rattle.cartridge.specs.With.{with_mapper}
 use Rattle.bus.specs.Bus.{lent_both, lent_area, read_verdict, write_verdict, read_by, read_of, write_by, write_of, area_after}
 use Rattle.bus.specs.Advance.{advance_of}
 use Rattle.bus.specs.Run.{Access, Answer, Machine, Left, after_read, after_write, after_clocks, step_of, run_of, Ready}
 use Rattle.bus.specs.Run as run
-use Rattle.access.specs.declared.Verdict.{Verdict}
-use Rattle.access.specs.declared.Verdict.TheVariants.{Rom, Ram, Refuse}
-use Rattle.bus.specs.declared.ReadAnswer.{ReadAnswer}
-use Rattle.bus.specs.declared.ReadAnswer.TheVariants as read
-use Rattle.bus.specs.declared.WriteAnswer.{WriteAnswer}
-use Rattle.bus.specs.declared.WriteAnswer.TheVariants as write
-use Rattle.bus.specs.declared.Advanced.{Advanced}
-use Rattle.bus.specs.declared.Advanced.TheVariants as advanced
 use Rattle.access.proofs.Laws.{by_tests_lem, by_tests}
+use Rattle.access.specs.declared.Target.{Target}
+use Rattle.access.specs.declared.BusRefusal.{BusRefusal}
+use Rattle.access.specs.declared.Target.TheVariants.{Rom, Ram}
 use Rattle.runs.specs.Calls.{Called, Calls, Octet, Octets, Neither, AllNeither}
 use Rattle.runs.specs.Calls as calls
 use Rattle.runs.proofs.MapperLaws as kept
@@ -42,7 +38,7 @@ use Rattle.runs.proofs.BusLaws.{write_taken, write_fit, write_area_stays, write_
 called_step : {rom : List ℕ} {m : Machine} {a : Access} {x : Left} → Called rom m a x → x ≡ step_of rom m a
 called_step {m = m} (calls.read r p) = ap (after_read m) p
 called_step {m = m} (calls.write {addr = addr} {byte = byte} r area p q) =
-    ap (λ (t : WriteAnswer). after_write m t area) p ∙ ap (after_write m (write_of m.cart m.area addr byte)) q
+    ap (λ (t : Result Cartridge BusRefusal). after_write m t area) p ∙ ap (after_write m (write_of m.cart m.area addr byte)) q
 called_step {m = m} (calls.advance r p) = ap (after_clocks m) p
 
 pub calls_run : {rom : List ℕ} {m n : Machine} {as' : List Access} {xs : List Answer} → Calls rom m as' xs n
@@ -70,10 +66,10 @@ run_called rom m (a ∷ as') = calls.call (called rom m a) (run_called rom (step
 -- ---- 13 and 14 are not given to a cartridge that is fit and lent its own
 
 -- the verdict on a fit cartridge lent its own is a window, 15 or 16
-abbrev Later : Verdict → Type 0
-Later Rom = Unit {0}
-Later Ram = Unit {0}
-Later (Refuse w) = 14 < number_of w
+abbrev Later : Result Target BusRefusal → Type 0
+Later (Ok Rom) = Unit {0}
+Later (Ok Ram) = Unit {0}
+Later (Err w) = 14 < number_of w
 
 later : (c : Cartridge) (lent : Bool) (addr : ℕ) (bad : Bool) → fit_cart c ≡ true → lent ≡ true → Later (verdict_of c lent addr bad)
 later c lent addr bad f l = subst Later (by_tests c lent addr bad f l refl refl refl) (go (in_rom addr) (in_ram addr) bad)
@@ -88,9 +84,9 @@ later c lent addr bad f l = subst Later (by_tests c lent addr bad f l refl refl 
 pub read_left : (rom : List ℕ) (m : Machine) (addr : ℕ) → (step_of rom m (run.reads addr)).left ≡ m
 read_left rom m addr = go (read_of m.cart rom m.area addr)
   where
-    go : (r : ReadAnswer) → (after_read m r).left ≡ m
-    go (read.Byte b) = refl
-    go (read.Refuse w) = refl
+    go : (r : Result ℕ BusRefusal) → (after_read m r).left ≡ m
+    go (Ok b) = refl
+    go (Err w) = refl
 
 -- a refused access leaves the machine as it was
 pub refused_left : (rom : List ℕ) (m : Machine) (a : Access) (k : ℕ) → (step_of rom m a).answer ≡ run.refused k
@@ -101,16 +97,16 @@ refused_left rom m (run.writes addr byte) k e = go (write_of m.cart m.area addr 
     after : List ℕ
     after = area_after m.cart m.area addr byte
 
-    go : (r : WriteAnswer) → write_of m.cart m.area addr byte ≡ r → (after_write m r after).answer ≡ run.refused k
+    go : (r : Result Cartridge BusRefusal) → write_of m.cart m.area addr byte ≡ r → (after_write m r after).answer ≡ run.refused k
         → (after_write m r after).left ≡ m
-    go (write.Done d) p q = let z : ◌≡◌ {A = ℕ} 0 1 = cc in absurd (omega arith)
-    go (write.Refuse w) p q =
+    go (Ok d) p q = let z : ◌≡◌ {A = ℕ} 0 1 = cc in absurd (omega arith)
+    go (Err w) p q =
         ap (λ (x : List ℕ). record { cart = m.cart; area = x }) (refused_area m.cart m.area addr byte w p)
 refused_left rom m (run.clocks n) k e = go (advance_of m.cart n) e
   where
-    go : (r : Advanced) → (after_clocks m r).answer ≡ run.refused k → (after_clocks m r).left ≡ m
-    go (advanced.To d) q = let z : ◌≡◌ {A = ℕ} 0 1 = cc in absurd (omega arith)
-    go (advanced.Refuse w) q = refl
+    go : (r : Result Cartridge AdvanceRefusal) → (after_clocks m r).answer ≡ run.refused k → (after_clocks m r).left ≡ m
+    go (Ok d) q = let z : ◌≡◌ {A = ℕ} 0 1 = cc in absurd (omega arith)
+    go (Err w) q = refl
 
 module _ (rom : List ℕ) (m : Machine) (ready : Ready rom m) where
   step_neither : (a : Access) → Neither (step_of rom m a).answer
@@ -120,24 +116,24 @@ module _ (rom : List ℕ) (m : Machine) (ready : Ready rom m) where
       (later m.cart (lent_both m.cart (length rom) (length m.area)) addr false ready.fit
       (both_true (eq-eqb _ _ ready.image) (eq-eqb _ _ ready.area)))
     where
-      go : (v : Verdict) → Later v → Neither (after_read m (read_by m.cart rom m.area addr v)).answer
-      go Rom h = tt
-      go Ram h = tt
-      go (Refuse w) h = h
+      go : (v : Result Target BusRefusal) → Later v → Neither (after_read m (read_by m.cart rom m.area addr v)).answer
+      go (Ok Rom) h = tt
+      go (Ok Ram) h = tt
+      go (Err w) h = h
   step_neither (run.writes addr byte) =
       go (write_verdict m.cart m.area addr byte)
       (later m.cart (lent_area m.cart (length m.area)) addr (mapper.bad_selection m.cart.mapper addr byte) ready.fit
       (eq-eqb _ _ ready.area))
     where
-      go : (v : Verdict) → Later v
+      go : (v : Result Target BusRefusal) → Later v
           → Neither (after_write m (write_by m.cart addr byte v) (area_after m.cart m.area addr byte)).answer
-      go Rom h = tt
-      go Ram h = tt
-      go (Refuse w) h = h
+      go (Ok Rom) h = tt
+      go (Ok Ram) h = tt
+      go (Err w) h = h
   step_neither (run.clocks n) = go (fit_cart m.cart) (mapper.late m.cart.mapper n) ready.fit
     where
       go : (f l : Bool) → f ≡ true
-          → Neither (after_clocks m (first_no advanced.Refuse (no (not f) late.Unfit ∷ no l late.Late ∷ []) (advanced.To (with_mapper m.cart (mapper.clocks_on m.cart.mapper n))))).answer
+          → Neither (after_clocks m (first_no Err (no (not f) late.Unfit ∷ no l late.Late ∷ []) (Ok (with_mapper m.cart (mapper.clocks_on m.cart.mapper n))))).answer
       go true true e = omega arith
       go true false e = tt
       go false l e = false≢true e
@@ -149,29 +145,29 @@ module _ (rom : List ℕ) (m : Machine) (ready : Ready rom m) where
       long : length (area_after m.cart m.area addr byte) ≡ area_of m.cart
       long = one_length m.area _ (write_one m.cart m.area addr byte) ∙ ready.area
 
-      go : (r : WriteAnswer) → write_of m.cart m.area addr byte ≡ r
+      go : (r : Result Cartridge BusRefusal) → write_of m.cart m.area addr byte ≡ r
           → Ready rom (after_write m r (area_after m.cart m.area addr byte)).left
-      go (write.Done d) e =
+      go (Ok d) e =
           let t = write_taken m.cart d m.area addr byte e in
           record {
             fit = write_fit m.cart d m.area addr byte o e;
             image = ready.image ∙ ap (λ (x : Cartridge). x.length) (sym t.is);
             area = long ∙ sym (write_area_stays m.cart d m.area addr byte e);
           }
-      go (write.Refuse w) e = record { fit = ready.fit; image = ready.image; area = long }
+      go (Err w) e = record { fit = ready.fit; image = ready.image; area = long }
   step_ready (run.clocks n) o = go (advance_of m.cart n) refl
     where
-      go : (r : Advanced) → advance_of m.cart n ≡ r → Ready rom (after_clocks m r).left
-      go (advanced.To d) e =
+      go : (r : Result Cartridge AdvanceRefusal) → advance_of m.cart n ≡ r → Ready rom (after_clocks m r).left
+      go (Ok d) e =
           let t = advance_taken m.cart d n e in
           record {
             fit = advance_fit m.cart d n e;
             image = ready.image ∙ ap (λ (x : Cartridge). x.length) (sym t.is);
             area = ready.area ∙ sym (ap area_of t.is ∙ (kept.clocks_same m.cart.mapper n).area m.cart.size);
           }
-      go (advanced.Refuse w) e = ready
+      go (Err w) e = ready
 
-pub mount_ready : (image ram : List ℕ) (wall : ℕ) (c : Cartridge) → mount_of image ram wall ≡ mounted.To c
+pub mount_ready : (image ram : List ℕ) (wall : ℕ) (c : Cartridge) → mount_of image ram wall ≡ Ok c
     → Ready image (record { cart = c; area = mount.area_after image ram wall })
 unfolding mount.area_after cart_of
 mount_ready image ram wall c e =
@@ -179,7 +175,7 @@ mount_ready image ram wall c e =
     record {
       fit = mount_fit image ram wall c e;
       image = sym (ap (λ (x : Cartridge). x.length) t.is);
-      area = ap (λ (x : Mounted). length (mount.area_by x ram)) e ∙ length-replicate (length ram) 0 ∙ t.lent;
+      area = ap (λ (x : Result Cartridge MountRefusal). length (mount.area_by x ram)) e ∙ length-replicate (length ram) 0 ∙ t.lent;
     }
 
 pub run_ready : (rom : List ℕ) (m : Machine) (as' : List Access) → Ready rom m → Octets as' → Ready rom (run_of rom m as').left

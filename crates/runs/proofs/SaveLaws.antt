@@ -1,4 +1,5 @@
 -- Accepted loads, taken apart; what they leave fit; and what comes back.
+use Rattle.std.specs.Prelude.{Ok, Err, Some, None, Result, Option}
 use mathlib.Core.Bool.{Bool, true, false, not}
 use mathlib.Core.List.{List, ◌++◌, append_assoc, append-nil}
 use mathlib.Core.Path.{◌≡◌, refl, sym, ap, ◌∙◌, subst}
@@ -27,8 +28,6 @@ use Rattle.clock_block.proofs.Laws.{length_block}
 use Rattle.clock_block.proofs.BackLaws.{Narrow, block_back, bytes_back, woken_fit, woken_same, kept_time, again_time, again_same}
 use Rattle.mapper.specs.declared.Mapper.{Mapper}
 use Rattle.battery.specs.Battery.{clock_in, has_clock, has_block, with_clock, battery_bytes}
-use Rattle.battery.specs.declared.Timer.{Timer}
-use Rattle.battery.specs.declared.Timer.TheVariants as timer
 use Rattle.cartridge.specs.Fit.{fit_cart, area_of}
 use Rattle.cartridge.specs.With.{with_mapper}
 use Rattle.cartridge.specs.declared.Cartridge.{Cartridge}
@@ -37,10 +36,8 @@ use Rattle.save_file.specs.Admit.{admit_noes}
 use Rattle.save_file.specs.Save.{bytes_of, save_noes, save_of}
 use Rattle.save_file.specs.Load.{accepted_of, load_noes, load_of, area_after, area_by}
 use Rattle.save_file.specs.declared.SaveRefusal.TheVariants.{Unfit}
-use Rattle.save_file.specs.declared.Saved.TheVariants as saved
-use Rattle.save_file.specs.declared.Loaded.{Loaded}
-use Rattle.save_file.specs.declared.Loaded.TheVariants.{Whole, RamOnly, Refuse}
 use Rattle.save_file.proofs.Laws.{only_held}
+use Rattle.save_file.specs.declared.SaveRefusal.{SaveRefusal}
 use Rattle.bus.specs.Run.{Machine, Ready}
 use Rattle.runs.specs.Time.{SameTime}
 use Rattle.runs.specs.Saves.{Kept, Back}
@@ -51,17 +48,17 @@ use Rattle.runs.proofs.BusLaws.{fit_with}
 -- ---- a load that is not refused
 
 -- as a test
-abbrev accepts : Loaded → Bool
-accepts (Whole c) = true
-accepts RamOnly = true
-accepts (Refuse w) = false
+abbrev accepts : Result (Option Cartridge) SaveRefusal → Bool
+accepts (Ok (Some c)) = true
+accepts (Ok None) = true
+accepts (Err w) = false
 
-accepts_if : (x : Loaded) → Accepted x → accepts x ≡ true
-accepts_if (Whole c) h = refl
-accepts_if RamOnly h = refl
-accepts_if (Refuse w) h = absurd (h w refl)
+accepts_if : (x : Result (Option Cartridge) SaveRefusal) → Accepted x → accepts x ≡ true
+accepts_if (Ok (Some c)) h = refl
+accepts_if (Ok None) h = refl
+accepts_if (Err w) h = absurd (h w refl)
 
-accepts_only : {x : Loaded} → accepts x ≡ true → Accepted x
+accepts_only : {x : Result (Option Cartridge) SaveRefusal} → accepts x ≡ true → Accepted x
 accepts_only e w p = false≢true (sym (ap accepts p) ∙ e)
 
 -- what it relied on, and what it answers
@@ -89,7 +86,7 @@ module _ (c : Cartridge) (area : ℕ) (save : List ℕ) (wall : ℕ) where
   load_taken h =
       let tests = load_noes c area save wall in
       let a = accepted_of c (drop area save) wall in
-      let none = none_if accepts Refuse (λ w. refl) tests a (accepts_if (load_of c area save wall) h) in
+      let none = none_if accepts Err (λ w. refl) tests a (accepts_if (load_of c area save wall) h) in
       let clear : (i : ℕ) → (get_or tests i (no false Unfit)).holds ≡ false = λ i. none_at tests i (no false Unfit) refl none in
       record {
         fit = not_false (fit_cart c) (clear 0);
@@ -98,18 +95,18 @@ module _ (c : Cartridge) (area : ℕ) (save : List ℕ) (wall : ℕ) where
         long = ltb-false (length save) area (clear 3);
         registers = λ t. not_false (fit_registers (taken_of read)) (only_held t (clear 4));
         early = λ t. only_held t (clear 5);
-        is = none_accepts Refuse a tests none;
+        is = none_accepts Err a tests none;
       }
 
   -- the answer of an accepted load, by whether there is a block
-  abbrev answer_by : Bool → Loaded
-  answer_by t = pick t (Whole (with_mapper c (with_clock c.mapper (woken_of read wall)))) RamOnly
+  abbrev answer_by : Bool → Result (Option Cartridge) SaveRefusal
+  answer_by t = pick t (Ok (Some (with_mapper c (with_clock c.mapper (woken_of read wall))))) (Ok None)
 
   pub answer_by_lem : {t : Bool} → has_block c.mapper (drop area save) ≡ t → accepted_of c (drop area save) wall ≡ answer_by t
   unfolding accepted_of
   answer_by_lem e = ap answer_by e
 
-  pub whole_taken : (d : Cartridge) → load_of c area save wall ≡ Whole d → TakenWhole c d area save wall
+  pub whole_taken : (d : Cartridge) → load_of c area save wall ≡ Ok (Some d) → TakenWhole c d area save wall
   whole_taken d e = go (has_block c.mapper (drop area save)) refl
     where
       load : TakenLoad c area save wall
@@ -126,11 +123,11 @@ module _ (c : Cartridge) (area : ℕ) (save : List ℕ) (wall : ℕ) where
   unfolding load_of load_noes admit_noes block_noes
   load_accepts fit lent battery long h in' early =
       let none : any_no (load_noes c area save wall) ≡ false = rw (fit, lent, battery, long, h, in', early) refl in
-      none_accepts Refuse (accepted_of c (drop area save) wall) (load_noes c area save wall) none ∙ answer_by_lem h
+      none_accepts Err (accepted_of c (drop area save) wall) (load_noes c area save wall) none ∙ answer_by_lem h
 
 -- ---- it leaves a fit cartridge, and the area its length
 
-pub load_fit : (c d : Cartridge) (area : ℕ) (save : List ℕ) (wall : ℕ) → load_of c area save wall ≡ Whole d → fit_cart d ≡ true
+pub load_fit : (c d : Cartridge) (area : ℕ) (save : List ℕ) (wall : ℕ) → load_of c area save wall ≡ Ok (Some d) → fit_cart d ≡ true
 load_fit c d area save wall e =
     let t = whole_taken c area save wall d e in
     let woken = woken_of (block_in (drop area save)) wall in
@@ -138,7 +135,7 @@ load_fit c d area save wall e =
     ∙ fit_with c (with_clock c.mapper woken) t.load.fit (kept.with_clock_same c.mapper woken)
     (kept.with_clock_fit c.mapper woken (woken_fit (block_in (drop area save)) wall (t.load.registers t.block)))
 
-pub load_area_stays : (c d : Cartridge) (area : ℕ) (save : List ℕ) (wall : ℕ) → load_of c area save wall ≡ Whole d
+pub load_area_stays : (c d : Cartridge) (area : ℕ) (save : List ℕ) (wall : ℕ) → load_of c area save wall ≡ Ok (Some d)
     → area_of d ≡ area_of c
 load_area_stays c d area save wall e =
     let t = whole_taken c area save wall d e in
@@ -169,13 +166,13 @@ unfolding taken_of block_of
 taken_shows k wall = record { second = refl; minute = refl; hour = refl; day = refl }
 
 -- what stands behind the RAM in a save, whatever follows
-behind_save : (m : Mapper) (k : Clock) (ram rest : List ℕ) (wall : ℕ) → clock_in m ≡ timer.Clock k
+behind_save : (m : Mapper) (k : Clock) (ram rest : List ℕ) (wall : ℕ) → clock_in m ≡ Some k
     → drop (length ram) (bytes_of m ram wall ++ rest) ≡ block_bytes (block_of k wall) ++ rest
 unfolding bytes_of
 behind_save m k ram rest wall e =
     ap (drop (length ram)) (append_assoc ram (battery_bytes (clock_in m) wall) rest)
     ∙ drop_at ram (battery_bytes (clock_in m) wall ++ rest) (length ram) refl
-    ∙ ap (λ (t : Timer). battery_bytes t wall ++ rest) e
+    ∙ ap (λ (t : Option Clock). battery_bytes t wall ++ rest) e
 
 stored : (k : Clock) (wall : ℕ) → wall ≤ k.time → time_of (block_of k wall) wall ≤ (block_of k wall).time
 unfolding block_of
@@ -223,10 +220,10 @@ pub load_area : (c : Cartridge) (ram save : List ℕ) (wall : ℕ) → Accepted 
 unfolding area_after
 load_area c ram save wall h = go (load_of c (length ram) save wall) h
   where
-    go : (x : Loaded) → Accepted x → area_by ram save x ≡ take (length ram) save
-    go (Whole d) a = refl
-    go RamOnly a = refl
-    go (Refuse w) a = absurd (a w refl)
+    go : (x : Result (Option Cartridge) SaveRefusal) → Accepted x → area_by ram save x ≡ take (length ram) save
+    go (Ok (Some d)) a = refl
+    go (Ok None) a = refl
+    go (Err w) a = absurd (a w refl)
 
 pub ram_back : (m : Mapper) (d : Cartridge) (ram area rest : List ℕ) (wall later : ℕ) → length area ≡ length ram
     → Accepted (load_of d (length area) (bytes_of m ram wall ++ rest) later) → area_after d area (bytes_of m ram wall ++ rest) later ≡ ram
@@ -238,7 +235,7 @@ ram_back m d ram area rest wall later n h =
 
 -- ---- read and written again
 
-module _ (c d : Cartridge) (ram save : List ℕ) (wall : ℕ) (e : load_of c (length ram) save wall ≡ Whole d) where
+module _ (c d : Cartridge) (ram save : List ℕ) (wall : ℕ) (e : load_of c (length ram) save wall ≡ Ok (Some d)) where
   abbrev stands : List ℕ
   stands = drop (length ram) save
 
@@ -256,7 +253,7 @@ module _ (c d : Cartridge) (ram save : List ℕ) (wall : ℕ) (e : load_of c (le
       let has = both_left (has_clock (clock_in c.mapper)) _ taken.block in
       let clock = ap (λ (x : Cartridge). clock_in x.mapper) taken.is ∙ kept.clock_with_lem c.mapper (woken_of (block_in stands) wall) has in
       ap (λ (x : List ℕ). x ++ battery_bytes (clock_in d.mapper) wall) (load_area c ram save wall (accepts_only (ap accepts e)))
-      ∙ ap (λ (t : Timer). take (length ram) save ++ battery_bytes t wall) clock
+      ∙ ap (λ (t : Option Clock). take (length ram) save ++ battery_bytes t wall) clock
 
   pub again_if : Octets save → (block_in stands).time ≡ time_of (block_in stands) wall
       → bytes_of d.mapper (area_after c ram save wall) wall ≡ take (length ram + 21) save
@@ -291,9 +288,9 @@ again_ram c ram save wall later h acc =
     ap (λ (x : List ℕ). x ++ battery_bytes (clock_in c.mapper) later) (load_area c ram save wall acc)
     ∙ none (clock_in c.mapper) h
   where
-    none : (t : Timer) → has_clock t ≡ false → take (length ram) save ++ battery_bytes t later ≡ take (length ram) save
-    none (timer.Clock k) p = false≢true (sym p)
-    none timer.Nothing p = append-nil (take (length ram) save)
+    none : (t : Option Clock) → has_clock t ≡ false → take (length ram) save ++ battery_bytes t later ≡ take (length ram) save
+    none (Some k) p = false≢true (sym p)
+    none None p = append-nil (take (length ram) save)
 
 -- ---- the bus goes on, whatever the answer is
 
@@ -307,35 +304,35 @@ load_ready {rom} {m} save wall r = go (answer_to m save wall) refl
     n : ℕ
     n = length m.area
 
-    go : (x : Loaded) → answer_to m save wall ≡ x → Ready rom (record { cart = cart_by c x; area = area_by m.area save x })
-    go (Whole d) e =
+    go : (x : Result (Option Cartridge) SaveRefusal) → answer_to m save wall ≡ x → Ready rom (record { cart = cart_by c x; area = area_by m.area save x })
+    go (Ok (Some d)) e =
         let t = whole_taken c n save wall d e in
         record {
           fit = load_fit c d n save wall e;
           image = r.image ∙ sym (ap (λ (x : Cartridge). x.length) t.is);
           area = length-take-le n save t.load.long ∙ r.area ∙ sym (load_area_stays c d n save wall e);
         }
-    go RamOnly e =
+    go (Ok None) e =
         let t = load_taken c n save wall (accepts_only (ap accepts e)) in
         record { fit = r.fit; image = r.image; area = length-take-le n save t.long ∙ r.area }
-    go (Refuse w) e = r
+    go (Err w) e = r
 
 pub whole_ready : (rom : List ℕ) (m : Machine) (d : Cartridge) (save : List ℕ) (wall : ℕ) → Ready rom m
-    → load_of m.cart (length m.area) save wall ≡ Whole d
+    → load_of m.cart (length m.area) save wall ≡ Ok (Some d)
     → Ready rom (record { cart = d; area = area_after m.cart m.area save wall })
 whole_ready rom m d save wall r e =
-    subst (λ (x : Loaded). Ready rom (record { cart = cart_by m.cart x; area = area_after m.cart m.area save wall })) e
+    subst (λ (x : Result (Option Cartridge) SaveRefusal). Ready rom (record { cart = cart_by m.cart x; area = area_after m.cart m.area save wall })) e
     (load_ready save wall r)
 
 -- ---- a fit cartridge lent its own area is not refused with 13 or 14
 
 pub fit_saves : (c : Cartridge) (ram : List ℕ) (room wall : ℕ) → fit_cart c ≡ true → length ram ≡ area_of c
     → save_of c ram room wall
-    ≡ first_no saved.Refuse (drop 2 (save_noes c ram room wall)) (saved.Wrote (length (bytes_of c.mapper ram wall)))
+    ≡ first_no Err (drop 2 (save_noes c ram room wall)) (Ok (length (bytes_of c.mapper ram wall)))
 unfolding save_of save_noes admit_noes
 fit_saves c ram room wall f l = let e = eq-eqb _ _ l in rw (f, e) refl
 
 pub fit_loads : (c : Cartridge) (area : ℕ) (save : List ℕ) (wall : ℕ) → fit_cart c ≡ true → area ≡ area_of c
-    → load_of c area save wall ≡ first_no Refuse (drop 2 (load_noes c area save wall)) (accepted_of c (drop area save) wall)
+    → load_of c area save wall ≡ first_no Err (drop 2 (load_noes c area save wall)) (accepted_of c (drop area save) wall)
 unfolding load_of load_noes admit_noes
 fit_loads c area save wall f l = let e = eq-eqb _ _ l in rw (f, e) refl

@@ -1,4 +1,5 @@
 -- An access to a fit cartridge that is lent its own: what it is answered in the windows, and the numbers outside them.
+use Rattle.std.specs.Prelude.{Ok, Result}
 use mathlib.Core.Bool.{true, false}
 use mathlib.Core.List.{List}
 use mathlib.Core.Path.{◌≡◌, refl, ap}
@@ -10,26 +11,26 @@ use Rattle.facts.proofs.ChoiceLaws.{both_true}
 use Rattle.mapper.specs.Mappers as mapper
 use Rattle.cartridge.specs.With.{with_mapper}
 use Rattle.access.specs.Verdict.{in_rom, in_ram}
-use Rattle.access.specs.declared.Verdict.{Verdict}
-use Rattle.access.specs.declared.Verdict.TheVariants.{Rom, Ram}
 use Rattle.access.proofs.Laws.{window_given, fifteen_given, sixteen_given}
+use Rattle.access.specs.declared.Target.{Target}
+use Rattle.access.specs.declared.BusRefusal.{BusRefusal}
+use Rattle.access.specs.declared.Target.TheVariants.{Rom, Ram}
 use Rattle.bus.specs.Bus.{lent_both, read_verdict, write_verdict, read_by, read_of, write_by, write_of, area_by, area_after}
 use Rattle.bus.specs.Advance.{advance_of}
 use Rattle.bus.specs.Run.{Machine, Left, reads, writes, clocks, refused, after_read, after_write, after_clocks, step_of, Ready}
-use Rattle.bus.specs.declared.Advanced.TheVariants as advanced
 
 module _ {image : List ℕ} {m : Machine} (r : Ready image m) where
   lent : lent_both m.cart (length image) (length m.area) ≡ true
   lent = both_true (eq-eqb _ _ r.image) (eq-eqb _ _ r.area)
 
   -- a read, by its verdict,
-  read_by_lem : (addr : ℕ) {v : Verdict} → read_verdict m.cart image m.area addr ≡ v
+  read_by_lem : (addr : ℕ) {v : Result Target BusRefusal} → read_verdict m.cart image m.area addr ≡ v
       → step_of image m (reads addr) ≡ after_read m (read_by m.cart image m.area addr v)
   unfolding read_of
-  read_by_lem addr e = ap (λ (v : Verdict). after_read m (read_by m.cart image m.area addr v)) e
+  read_by_lem addr e = ap (λ (v : Result Target BusRefusal). after_read m (read_by m.cart image m.area addr v)) e
 
   pub read_step : (addr : ℕ) → either (in_rom addr) (in_ram addr) ≡ true
-      → step_of image m (reads addr) ≡ after_read m (read_by m.cart image m.area addr (pick (in_rom addr) Rom Ram))
+      → step_of image m (reads addr) ≡ after_read m (read_by m.cart image m.area addr (pick (in_rom addr) (Ok Rom) (Ok Ram)))
   unfolding read_verdict
   read_step addr w = read_by_lem addr (window_given m.cart _ addr false r.fit lent w refl)
 
@@ -40,17 +41,17 @@ module _ {image : List ℕ} {m : Machine} (r : Ready image m) where
 
   -- and a write
   module _ (addr byte : ℕ) where
-    write_by_lem : {v : Verdict} → write_verdict m.cart m.area addr byte ≡ v
+    write_by_lem : {v : Result Target BusRefusal} → write_verdict m.cart m.area addr byte ≡ v
         → step_of image m (writes addr byte)
         ≡ after_write m (write_by m.cart addr byte v) (area_by m.cart m.area addr byte v)
     unfolding write_of area_after
     write_by_lem e =
-        ap (λ (v : Verdict). after_write m (write_by m.cart addr byte v) (area_by m.cart m.area addr byte v)) e
+        ap (λ (v : Result Target BusRefusal). after_write m (write_by m.cart addr byte v) (area_by m.cart m.area addr byte v)) e
 
     pub write_step : either (in_rom addr) (in_ram addr) ≡ true → mapper.bad_selection m.cart.mapper addr byte ≡ false
         → step_of image m (writes addr byte)
-        ≡ after_write m (write_by m.cart addr byte (pick (in_rom addr) Rom Ram))
-        (area_by m.cart m.area addr byte (pick (in_rom addr) Rom Ram))
+        ≡ after_write m (write_by m.cart addr byte (pick (in_rom addr) (Ok Rom) (Ok Ram)))
+        (area_by m.cart m.area addr byte (pick (in_rom addr) (Ok Rom) (Ok Ram)))
     unfolding write_verdict
     write_step w b = write_by_lem (window_given m.cart _ addr _ r.fit (eq-eqb _ _ r.area) w b)
 
@@ -67,7 +68,7 @@ module _ {image : List ℕ} {m : Machine} (r : Ready image m) where
 
   -- clocks
   pub clock_step : (n : ℕ) → mapper.late m.cart.mapper n ≡ false
-      → step_of image m (clocks n) ≡ after_clocks m (advanced.To (with_mapper m.cart (mapper.clocks_on m.cart.mapper n)))
+      → step_of image m (clocks n) ≡ after_clocks m (Ok (with_mapper m.cart (mapper.clocks_on m.cart.mapper n)))
   unfolding advance_of
   clock_step n e = rw (r.fit, e)
 

@@ -1,4 +1,5 @@
 -- The arguments behind demand 3.
+use Rattle.std.specs.Prelude.{Ok, Err, Some, None, Result}
 use mathlib.Core.Bool.{Bool, true, false}
 use mathlib.Core.Logic.{◌↔◌}
 use mathlib.Core.Path.{◌≡◌, refl, sym, ap, ◌∙◌, subst}
@@ -21,16 +22,13 @@ use Rattle.clock.specs.Access.{visible, shown_of, written_clock, written_of}
 use Rattle.clock_registers.specs.declared.Registers.{Registers}
 use Rattle.clock.specs.declared.Clock.{Clock}
 use Rattle.clock.specs.declared.AdvanceRefusal.TheVariants.{Late}
-use Rattle.clock.specs.declared.Advanced.{Advanced}
-use Rattle.clock.specs.declared.Advanced.TheVariants.{To, Refuse}
-use Rattle.clock.specs.declared.Shown.TheVariants as shown
-use Rattle.clock.specs.declared.Written.TheVariants as written
 use Rattle.clock_registers.proofs.FitLaws.{fit_bounds}
 use Rattle.clock.proofs.FitLaws.{fit_parts}
 use Rattle.clock_registers.proofs.SecondLaws.{placed, by_places, minute_steps, hour_steps, day_steps}
 use Rattle.clock.proofs.TickLaws.{after, moving_ticks, halted_ticks, ticks_add, ticks_fit, time_grows}
 use Rattle.clock.proofs.AnswerLaws.{unfit_answer, late_answer, taken_answer}
 use Rattle.clock.proofs.KeptLaws.{SameCopy, advance_taken, ticks_copy}
+use Rattle.clock.specs.declared.AdvanceRefusal.{AdvanceRefusal}
 use Rattle.runs.specs.Time.{then_advance, single_ticks, Proper, SameTime, seconds_of, period, keeps}
 
 -- ---- one advance after the other
@@ -47,21 +45,21 @@ joined c a b = go (fit_clock c) (ltb 18446744073709551615 (ticks a c).time) refl
     go : (t u : Bool) → fit_clock c ≡ t → ltb 18446744073709551615 (ticks a c).time ≡ u
         → advance_of c (a + b) ≡ then_advance (advance_of c a) b
     go false u f l =
-        sym (unfit_answer c (a + b) f) ∙ ap (λ (x : Advanced). then_advance x b) (unfit_answer c a f)
+        sym (unfit_answer c (a + b) f) ∙ ap (λ (x : Result Clock AdvanceRefusal). then_advance x b) (unfit_answer c a f)
     go true true f l =
         let h = ltb-true 18446744073709551615 (ticks a c).time l in
         let g : (ticks a c).time ≤ (ticks (a + b) c).time = rw (ticks_add a b c) (time_grows b (ticks a c)) in
         sym (late_answer c (a + b) f (omega arith))
-        ∙ ap (λ (x : Advanced). then_advance x b) (late_answer c a f h)
+        ∙ ap (λ (x : Result Clock AdvanceRefusal). then_advance x b) (late_answer c a f h)
     go true false f l =
         let h = ltb-false 18446744073709551615 (ticks a c).time l in
-        on_from_ticks c a b f ∙ ap (λ (x : Advanced). then_advance x b) (taken_answer c a f h)
+        on_from_ticks c a b f ∙ ap (λ (x : Result Clock AdvanceRefusal). then_advance x b) (taken_answer c a f h)
 
 pub by_singles : (n : ℕ) (c : Clock) → advance_of c n ≡ single_ticks n c
 unfolding single_ticks
 by_singles zero c = refl
 by_singles (suc n) c =
-    ap (advance_of c) (sym (add-one n)) ∙ joined c n 1 ∙ ap (λ (x : Advanced). then_advance x 1) (by_singles n c)
+    ap (advance_of c) (sym (add-one n)) ∙ joined c n 1 ∙ ap (λ (x : Result Clock AdvanceRefusal). then_advance x 1) (by_singles n c)
 
 -- ---- the period: each place comes back only after whole rounds, and whole rounds bring it back
 
@@ -128,11 +126,11 @@ whole_seconds c k f h =
 pub taken_seconds : (c : Clock) (k : ℕ) {r : Registers} → fit_clock c ≡ true → c.running.halt ≡ false
     → c.time + k ≤ 18446744073709551615 → seconds_on k c.running ≡ r
     → advance_of c (seconds_of k)
-    ≡ To (record { running = r; sub = c.sub; time = c.time + k; latched = c.latched; frozen = c.frozen })
+    ≡ Ok (record { running = r; sub = c.sub; time = c.time + k; latched = c.latched; frozen = c.frozen })
 taken_seconds c k f h t e =
     let w = whole_seconds c k f h in
     sym (taken_answer c (seconds_of k) f (rw (ap (λ (x : Clock). x.time) w) t))
-    ∙ ap To (w ∙ rw e refl)
+    ∙ ap Ok (w ∙ rw e refl)
 
 -- ---- the carry
 
@@ -171,10 +169,10 @@ kept_reading r (suc (suc (suc (suc (suc n))))) b h l = absurd (omega arith)
 
 -- the answer to a fit clock is one of two, so each is given exactly where its test holds
 pub late_exactly : (c : Clock) (n : ℕ) → fit_clock c ≡ true
-    → (advance_of c n ≡ Refuse Late) ↔ (18446744073709551615 < (ticks n c).time)
+    → (advance_of c n ≡ Err Late) ↔ (18446744073709551615 < (ticks n c).time)
 late_exactly c n f = (only, λ h. sym (late_answer c n f h))
   where
-    only : advance_of c n ≡ Refuse Late → 18446744073709551615 < (ticks n c).time
+    only : advance_of c n ≡ Err Late → 18446744073709551615 < (ticks n c).time
     only e = go (ltb 18446744073709551615 (ticks n c).time) refl
       where
         go : (u : Bool) → ltb 18446744073709551615 (ticks n c).time ≡ u → 18446744073709551615 < (ticks n c).time
@@ -185,19 +183,19 @@ late_exactly c n f = (only, λ h. sym (late_answer c n f h))
             absurd (omega arith)
 
 pub taken_exactly : (c : Clock) (n : ℕ) → fit_clock c ≡ true
-    → (advance_of c n ≡ To (ticks n c)) ↔ ((ticks n c).time ≤ 18446744073709551615)
+    → (advance_of c n ≡ Ok (ticks n c)) ↔ ((ticks n c).time ≤ 18446744073709551615)
 taken_exactly c n f = (λ e. (advance_taken c (ticks n c) n e).room, λ h. sym (taken_answer c n f h))
 
 -- ---- what a register shows
 
-pub frozen_reading : (c d : Clock) (n k : ℕ) → c.latched ≡ true → advance_of c n ≡ To d → shown_of d k ≡ shown_of c k
+pub frozen_reading : (c d : Clock) (n k : ℕ) → c.latched ≡ true → advance_of c n ≡ Ok d → shown_of d k ≡ shown_of c k
 unfolding shown_of
 frozen_reading c d n k l e =
     let t = advance_taken c d n e in
     let s = subst (SameCopy c) (sym t.is) (ticks_copy n c) in
     let a : visible d ≡ c.frozen = ap (λ (b : Bool). pick b d.frozen d.running) (s.latched ∙ l) ∙ s.frozen in
     let b : visible c ≡ c.frozen = ap (λ (b : Bool). pick b c.frozen c.running) l in
-    ap (λ (r : Registers). pick (ltb k 5) (shown.Byte (get_or (readings r) k 0)) shown.NoRegister) (a ∙ sym b)
+    ap (λ (r : Registers). pick (ltb k 5) (Some (get_or (readings r) k 0)) None) (a ∙ sym b)
 
 -- what is visible after a write is what was visible before, written
 visible_written : (c : Clock) (n b : ℕ) → visible (written_clock c n b) ≡ get_or (writings (visible c) b) n (visible c)
@@ -210,24 +208,24 @@ visible_written c n b = picked c.latched
     picked true = refl
     picked false = refl
 
-pub written_reading : (c d : Clock) (n b : ℕ) → b < 256 → written_of c n b ≡ written.To d
-    → shown_of d n ≡ shown.Byte (get_or (keeps b) n 0)
+pub written_reading : (c d : Clock) (n b : ℕ) → b < 256 → written_of c n b ≡ Some d
+    → shown_of d n ≡ Some (get_or (keeps b) n 0)
 unfolding written_of shown_of
 written_reading c d n b l e = go (ltb n 5) refl e
   where
-    go : (t : Bool) → ltb n 5 ≡ t → pick t (written.To (written_clock c n b)) written.NoRegister ≡ written.To d
-        → pick t (shown.Byte (get_or (readings (visible d)) n 0)) shown.NoRegister ≡ shown.Byte (get_or (keeps b) n 0)
+    go : (t : Bool) → ltb n 5 ≡ t → pick t (Some (written_clock c n b)) None ≡ Some d
+        → pick t (Some (get_or (readings (visible d)) n 0)) None ≡ Some (get_or (keeps b) n 0)
     go true h p =
         let i : written_clock c n b ≡ d = cc in
         let v = ap visible (sym i) ∙ visible_written c n b in
-        ap (λ (r : Registers). shown.Byte (get_or (readings r) n 0)) v
-        ∙ ap shown.Byte (kept_reading (visible c) n b (ltb-true n 5 h) l)
+        ap (λ (r : Registers). Some (get_or (readings r) n 0)) v
+        ∙ ap Some (kept_reading (visible c) n b (ltb-true n 5 h) l)
     go false h p = let z : ◌≡◌ {A = ℕ} 0 1 = cc in absurd (omega arith)
 
 -- ---- the carry and a write
 
 pub written_carry : (c d : Clock) (n b : ℕ) → c.running.carry ≡ true → (n ≡ 4 → b / 128 % 2 ≡ 1)
-    → written_of c n b ≡ written.To d → d.running.carry ≡ true
+    → written_of c n b ≡ Some d → d.running.carry ≡ true
 unfolding written_of
 written_carry c d n b h keep e = go (ltb n 5) e
   where
@@ -239,7 +237,7 @@ written_carry c d n b h keep e = go (ltb n 5) e
     by_register (suc (suc (suc (suc zero)))) k = eq-eqb (b / 128 % 2) 1 (k refl)
     by_register (suc (suc (suc (suc (suc n))))) k = h
 
-    go : (t : Bool) → pick t (written.To (written_clock c n b)) written.NoRegister ≡ written.To d → d.running.carry ≡ true
+    go : (t : Bool) → pick t (Some (written_clock c n b)) None ≡ Some d → d.running.carry ≡ true
     go true p =
         let i : written_clock c n b ≡ d = cc in
         ap (λ (x : Clock). x.running.carry) (sym i) ∙ by_register n keep

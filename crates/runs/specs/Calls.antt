@@ -1,5 +1,5 @@
 -- Calls of the bus made one after the other, each answered as its contract allows, and at most one byte changed.
-use Rattle.std.specs.Prelude.{List, [], ◌∷◌, ◌⊎◌, ◌≡◌, ℕ, ◌<◌, set}
+use Rattle.std.specs.Prelude.{List, [], ◌∷◌, ◌⊎◌, ◌≡◌, ℕ, ◌<◌, set, Result}
 use Rattle.bus.specs.Bus.{read_of, write_of, area_after}
 use Rattle.bus.specs.Advance.{advance_of}
 use Rattle.bus.specs.Run.{
@@ -12,16 +12,16 @@ use Rattle.bus.specs.Run.{
   after_clocks,
 }
 use Rattle.bus.specs.Run as run
-use Rattle.bus.specs.declared.ReadAnswer.{ReadAnswer}
-use Rattle.bus.specs.declared.WriteAnswer.{WriteAnswer}
-use Rattle.bus.specs.declared.Advanced.{Advanced}
+use Rattle.access.specs.declared.BusRefusal.{BusRefusal}
+use Rattle.cartridge.specs.declared.Cartridge.{Cartridge}
+use Rattle.clock.specs.declared.AdvanceRefusal.{AdvanceRefusal}
 
 -- x is what one call may answer, and what is then left: the caller takes the state that an accepted call hands back
 pub data Called (rom : List ℕ) (m : Machine) : Access → Left → Type 0 where
-  read : {addr : ℕ} (r : ReadAnswer) → r ≡ read_of m.cart rom m.area addr → Called rom m (run.reads addr) (after_read m r)
-  write : {addr byte : ℕ} (r : WriteAnswer) (area : List ℕ) → r ≡ write_of m.cart m.area addr byte
+  read : {addr : ℕ} (r : Result ℕ BusRefusal) → r ≡ read_of m.cart rom m.area addr → Called rom m (run.reads addr) (after_read m r)
+  write : {addr byte : ℕ} (r : Result Cartridge BusRefusal) (area : List ℕ) → r ≡ write_of m.cart m.area addr byte
       → area ≡ area_after m.cart m.area addr byte → Called rom m (run.writes addr byte) (after_write m r area)
-  advance : {n : ℕ} (r : Advanced) → r ≡ advance_of m.cart n → Called rom m (run.clocks n) (after_clocks m r)
+  advance : {n : ℕ} (r : Result Cartridge AdvanceRefusal) → r ≡ advance_of m.cart n → Called rom m (run.clocks n) (after_clocks m r)
 
 -- the answers to a list of accesses, each call on what the one before left
 pub data Calls (rom : List ℕ) : Machine → List Access → List Answer → Machine → Type 0 where

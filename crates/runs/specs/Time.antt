@@ -1,19 +1,18 @@
 -- What demand 3 speaks of: advances one after the other, single ticks, the period, and what a register keeps.
-use Rattle.std.specs.Prelude.{true, false, List, [], ◌∷◌, ◌≡◌, ℕ, zero, suc, ◌+◌, ◌*◌, ◌/◌, ◌%◌, ◌<◌}
+use Rattle.std.specs.Prelude.{true, false, List, [], ◌∷◌, ◌≡◌, ℕ, zero, suc, ◌+◌, ◌*◌, ◌/◌, ◌%◌, ◌<◌, Ok, Err, Result}
 use Rattle.clock.specs.Ticking.{advance_of}
 use Rattle.clock_registers.specs.Access.{registers}
 use Rattle.clock_registers.specs.declared.Registers.{Registers}
 use Rattle.clock.specs.declared.Clock.{Clock}
-use Rattle.clock.specs.declared.Advanced.{Advanced}
-use Rattle.clock.specs.declared.Advanced.TheVariants.{To, Refuse}
+use Rattle.clock.specs.declared.AdvanceRefusal.{AdvanceRefusal}
 
 -- an advance by n after another: a refusal stays
-abbrev pub then_advance : Advanced → ℕ → Advanced
-then_advance (To c) n = advance_of c n
-then_advance (Refuse why) n = Refuse why
+abbrev pub then_advance : Result Clock AdvanceRefusal → ℕ → Result Clock AdvanceRefusal
+then_advance (Ok c) n = advance_of c n
+then_advance (Err why) n = Err why
 
 -- the code's answers to n single ticks, one after the other
-unfoldable pub single_ticks : ℕ → Clock → Advanced
+unfoldable pub single_ticks : ℕ → Clock → Result Clock AdvanceRefusal
 single_ticks zero c = advance_of c 0
 single_ticks (suc n) c = then_advance (single_ticks n c) 1
 

@@ -1,4 +1,5 @@
 -- Saving and loading by the tests they begin with, by the room, and by what stands behind the RAM.
+use Rattle.std.specs.Prelude.{Ok, Err, Some, None, Result, Option}
 use mathlib.Core.Bool.{Bool, true, false, not}
 use mathlib.Core.List.{List, [], ◌∷◌, ◌++◌, append_assoc, append-nil}
 use mathlib.Core.Path.{◌≡◌, refl, sym, ap, ◌∙◌}
@@ -15,12 +16,10 @@ use Rattle.facts.proofs.ListLaws.{part_from, part_back}
 use Rattle.facts.proofs.RefusalLaws.{first_map, first_append, first_said}
 use Rattle.clock_block.specs.Layout.{block_in}
 use Rattle.clock_block.specs.Waking.{block_noes, woken_of, wake_of}
-use Rattle.clock_block.specs.declared.Woken.TheVariants as woken
+use Rattle.clock_block.specs.declared.BlockRefusal.{BlockRefusal}
 use Rattle.mapper.specs.declared.Mapper.{Mapper}
 use Rattle.battery.specs.Battery as battery
 use Rattle.battery.specs.Battery.{clock_in, has_block, battery_bytes, battery_size, put_battery, with_clock, loaded_by}
-use Rattle.battery.specs.declared.Loaded as declared
-use Rattle.battery.specs.declared.Loaded.TheVariants as behind
 use Rattle.battery.proofs.Laws.{battery_length}
 use Rattle.cartridge.specs.Fit.{fit_cart, area_of}
 use Rattle.cartridge.specs.With.{with_mapper}
@@ -30,20 +29,13 @@ use Rattle.save_file.specs.Save.{bytes_of, room_noes, saved_of, room_by, save_no
 use Rattle.save_file.specs.Load.{only_where, behind_noes, bytes_noes, accepted_of, loaded_of, area_by, load_noes, load_of, area_after}
 use Rattle.save_file.specs.declared.SaveRefusal.{SaveRefusal}
 use Rattle.save_file.specs.declared.SaveRefusal.TheVariants.{Unfit, WrongLength, NoBattery, ShortSave, Block, ShortRoom}
-use Rattle.save_file.specs.declared.Admitted.{Admitted}
-use Rattle.save_file.specs.declared.Admitted.TheVariants as admitted
-use Rattle.save_file.specs.declared.Room.TheVariants as room
-use Rattle.save_file.specs.declared.Saved.{Saved}
-use Rattle.save_file.specs.declared.Saved.TheVariants as saved
-use Rattle.save_file.specs.declared.Loaded.{Loaded}
-use Rattle.save_file.specs.declared.Loaded.TheVariants as loaded
 
 -- ---- the tests that both begin with
 
 module _ (c : Cartridge) (area : ℕ) where
-  abbrev by : Bool → Bool → Bool → Admitted
+  abbrev by : Bool → Bool → Bool → Result (Unit {0}) SaveRefusal
   by x y z =
-      first_no admitted.Refuse (no (not x) Unfit ∷ no (not y) WrongLength ∷ no (not z) NoBattery ∷ []) admitted.Yes
+      first_no Err (no (not x) Unfit ∷ no (not y) WrongLength ∷ no (not z) NoBattery ∷ []) (Ok tt)
 
   split : {x y z : Bool} → fit_cart c ≡ x → eqb area (area_of c) ≡ y → c.battery ≡ z → by x y z ≡ admit_of c area
   unfolding admit_of admit_noes
@@ -51,11 +43,11 @@ module _ (c : Cartridge) (area : ℕ) where
       ap (by x y) (sym s) ∙ ap (λ (t : Bool). by x t c.battery) (sym r)
       ∙ ap (λ (t : Bool). by t (eqb area (area_of c)) c.battery) (sym q)
 
-  pub admit_unfit : {f : Bool} → f ≡ fit_cart c → f ≡ false → admitted.Refuse Unfit ≡ admit_of c area
+  pub admit_unfit : {f : Bool} → f ≡ fit_cart c → f ≡ false → Err Unfit ≡ admit_of c area
   admit_unfit p e = split (sym p ∙ e) refl refl
 
   pub admit_length : {f a : Bool} → f ≡ fit_cart c → f ≡ true → a ≡ eqb area (area_of c) → a ≡ false
-      → admitted.Refuse WrongLength ≡ admit_of c area
+      → Err WrongLength ≡ admit_of c area
   admit_length p e q g = split (sym p ∙ e) (sym q ∙ g) refl
 
   pub admit_battery : {f a b : Bool} → f ≡ fit_cart c → f ≡ true → a ≡ eqb area (area_of c) → a ≡ true → c.battery ≡ b
@@ -63,27 +55,27 @@ module _ (c : Cartridge) (area : ℕ) where
   admit_battery p e q g h = split (sym p ∙ e) (sym q ∙ g) h
 
 -- what follows where they were passed
-abbrev pub then_by : {A : Type 0} → (SaveRefusal → A) → A → Admitted → A
-then_by refuse a admitted.Yes = a
-then_by refuse a (admitted.Refuse w) = refuse w
+abbrev pub then_by : {A : Type 0} → (SaveRefusal → A) → A → Result (Unit {0}) SaveRefusal → A
+then_by refuse a (Ok tt) = a
+then_by refuse a (Err w) = refuse w
 
-then_first : {A : Type 0} (refuse : SaveRefusal → A) (a : A) (c : Cartridge) (area : ℕ) {o u : Admitted} → o ≡ admit_of c area
+then_first : {A : Type 0} (refuse : SaveRefusal → A) (a : A) (c : Cartridge) (area : ℕ) {o u : Result (Unit {0}) SaveRefusal} → o ≡ admit_of c area
     → o ≡ u → then_by refuse a u ≡ first_no refuse (admit_noes c area) a
 unfolding admit_of
 then_first refuse a c area e g =
-    ap (then_by refuse a) (sym g ∙ e) ∙ first_map (then_by refuse a) admitted.Refuse (admit_noes c area) admitted.Yes
+    ap (then_by refuse a) (sym g ∙ e) ∙ first_map (then_by refuse a) Err (admit_noes c area) (Ok tt)
 
 -- ---- saving
 
-pub save_by : (c : Cartridge) (ram : List ℕ) (room wall : ℕ) {o u : Admitted} → o ≡ admit_of c (length ram) → o ≡ u
-    → then_by saved.Refuse (saved_of (bytes_of c.mapper ram wall) room) u ≡ save_of c ram room wall
+pub save_by : (c : Cartridge) (ram : List ℕ) (room wall : ℕ) {o u : Result (Unit {0}) SaveRefusal} → o ≡ admit_of c (length ram) → o ≡ u
+    → then_by Err (saved_of (bytes_of c.mapper ram wall) room) u ≡ save_of c ram room wall
 unfolding saved_of save_of save_noes
 save_by c ram room wall e g =
     let bytes = bytes_of c.mapper ram wall in
-    then_first saved.Refuse (saved_of bytes room) c (length ram) e g
-    ∙ first_append saved.Refuse (admit_noes c (length ram)) (room_noes bytes room) (saved.Wrote (length bytes))
+    then_first Err (saved_of bytes room) c (length ram) e g
+    ∙ first_append Err (admit_noes c (length ram)) (room_noes bytes room) (Ok (length bytes))
 
-pub room_by_lem : (c : Cartridge) (ram room : List ℕ) (wall : ℕ) {x : Saved} → x ≡ save_of c ram (length room) wall
+pub room_by_lem : (c : Cartridge) (ram room : List ℕ) (wall : ℕ) {x : Result ℕ SaveRefusal} → x ≡ save_of c ram (length room) wall
     → room_by (bytes_of c.mapper ram wall) room x ≡ room_after c ram room wall
 unfolding room_after
 room_by_lem c ram room wall e = ap (room_by (bytes_of c.mapper ram wall) room) e
@@ -96,17 +88,17 @@ module _ (m : Mapper) (ram : List ℕ) (wall room : ℕ) {kept : ℕ} (z : kept 
       ∙ sym (length-append ram (battery_bytes (clock_in m) wall))
 
   by_room : {t : Bool} → ltb room (length (bytes_of m ram wall)) ≡ t
-      → pick t (saved.Refuse ShortRoom) (saved.Wrote (length (bytes_of m ram wall))) ≡ saved_of (bytes_of m ram wall) room
+      → pick t (Err ShortRoom) (Ok (length (bytes_of m ram wall))) ≡ saved_of (bytes_of m ram wall) room
   unfolding saved_of
-  by_room e = ap (λ (t : Bool). pick t (saved.Refuse ShortRoom) (saved.Wrote (length (bytes_of m ram wall)))) (sym e)
+  by_room e = ap (λ (t : Bool). pick t (Err ShortRoom) (Ok (length (bytes_of m ram wall)))) (sym e)
 
-  pub saved_short : room < length ram + kept → saved.Refuse ShortRoom ≡ saved_of (bytes_of m ram wall) room
+  pub saved_short : room < length ram + kept → Err ShortRoom ≡ saved_of (bytes_of m ram wall) room
   saved_short h = by_room (lt-ltb room (length (bytes_of m ram wall)) (omega (arith, bytes_length)))
 
   pub saved_wrote : {start : ℕ} → start ≡ length ram → length ram + kept ≤ room
-      → saved.Wrote (start + kept) ≡ saved_of (bytes_of m ram wall) room
+      → Ok (start + kept) ≡ saved_of (bytes_of m ram wall) room
   saved_wrote {start} e h =
-      ap saved.Wrote (ap (λ (k : ℕ). k + kept) e ∙ bytes_length)
+      ap Ok (ap (λ (k : ℕ). k + kept) e ∙ bytes_length)
       ∙ by_room (le-ltb room (length (bytes_of m ram wall)) (omega (arith, bytes_length)))
 
 -- the RAM copied to the room, and the battery's bytes put behind it
@@ -131,14 +123,14 @@ put_save m ram room wall {k} {kept} {r} {p} e f g h =
 
 -- ---- loading
 
-pub load_by : (c : Cartridge) (area : ℕ) (save : List ℕ) (wall : ℕ) {o u : Admitted} → o ≡ admit_of c area → o ≡ u
-    → then_by loaded.Refuse (loaded_of c area save wall) u ≡ load_of c area save wall
+pub load_by : (c : Cartridge) (area : ℕ) (save : List ℕ) (wall : ℕ) {o u : Result (Unit {0}) SaveRefusal} → o ≡ admit_of c area → o ≡ u
+    → then_by Err (loaded_of c area save wall) u ≡ load_of c area save wall
 unfolding loaded_of load_of load_noes
 load_by c area save wall e g =
-    then_first loaded.Refuse (loaded_of c area save wall) c area e g
-    ∙ first_append loaded.Refuse (admit_noes c area) (bytes_noes c.mapper area save wall) (accepted_of c (drop area save) wall)
+    then_first Err (loaded_of c area save wall) c area e g
+    ∙ first_append Err (admit_noes c area) (bytes_noes c.mapper area save wall) (accepted_of c (drop area save) wall)
 
-pub area_by_lem : (c : Cartridge) (ram save : List ℕ) (wall : ℕ) {x : Loaded} → x ≡ load_of c (length ram) save wall
+pub area_by_lem : (c : Cartridge) (ram save : List ℕ) (wall : ℕ) {x : Result (Option Cartridge) SaveRefusal} → x ≡ load_of c (length ram) save wall
     → area_by ram save x ≡ area_after c ram save wall
 unfolding area_after
 area_by_lem c ram save wall e = ap (area_by ram save) e
@@ -162,45 +154,45 @@ pub only_held : {t b : Bool} → t ≡ true → both t b ≡ false → b ≡ fal
 only_held {b = b} h e = sym (ap (λ (t : Bool). both t b) h) ∙ e
 
 -- the battery's answer, as the cartridge's
-abbrev pub from_battery : Cartridge → declared.Loaded → Loaded
-from_battery c (behind.To m) = loaded.Whole (with_mapper c m)
-from_battery c behind.RamOnly = loaded.RamOnly
-from_battery c (behind.Refuse w) = loaded.Refuse (Block w)
+abbrev pub from_battery : Cartridge → Result (Option Mapper) BlockRefusal → Result (Option Cartridge) SaveRefusal
+from_battery c (Ok (Some m)) = Ok (Some (with_mapper c m))
+from_battery c (Ok None) = Ok None
+from_battery c (Err w) = Err (Block w)
 
 module _ (c : Cartridge) (bytes : List ℕ) (wall : ℕ) where
-  abbrev whole : Loaded
-  whole = loaded.Whole (with_mapper c (with_clock c.mapper (woken_of (block_in bytes) wall)))
+  abbrev whole : Result (Option Cartridge) SaveRefusal
+  whole = Ok (Some (with_mapper c (with_clock c.mapper (woken_of (block_in bytes) wall))))
 
   from_battery_lem : from_battery c (battery.load_of c.mapper bytes wall)
-      ≡ first_no loaded.Refuse (behind_noes c.mapper bytes wall) (accepted_of c bytes wall)
+      ≡ first_no Err (behind_noes c.mapper bytes wall) (accepted_of c bytes wall)
   unfolding battery.load_of accepted_of wake_of block_noes
   from_battery_lem = go (has_block c.mapper bytes)
     where
-      go : (t : Bool) → from_battery c (pick t (loaded_by c.mapper (wake_of (block_in bytes) wall)) behind.RamOnly)
-          ≡ first_no loaded.Refuse (only_where t (in_words Block (block_noes (block_in bytes) wall))) (pick t whole loaded.RamOnly)
+      go : (t : Bool) → from_battery c (pick t (loaded_by c.mapper (wake_of (block_in bytes) wall)) (Ok None))
+          ≡ first_no Err (only_where t (in_words Block (block_noes (block_in bytes) wall))) (pick t whole (Ok None))
       go true =
-          first_map (λ w. from_battery c (loaded_by c.mapper w)) woken.Refuse (block_noes (block_in bytes) wall)
-          (woken.To (woken_of (block_in bytes) wall))
-          ∙ first_said Block loaded.Refuse (block_noes (block_in bytes) wall) whole
+          first_map (λ w. from_battery c (loaded_by c.mapper w)) Err (block_noes (block_in bytes) wall)
+          (Ok (woken_of (block_in bytes) wall))
+          ∙ first_said Block Err (block_noes (block_in bytes) wall) whole
       go false = refl
 
 module _ (c : Cartridge) (area : ℕ) (save : List ℕ) (wall : ℕ) where
   by_short : {t : Bool} → ltb (length save) area ≡ t
-      → pick t (loaded.Refuse ShortSave)
-      (first_no loaded.Refuse (behind_noes c.mapper (drop area save) wall) (accepted_of c (drop area save) wall))
+      → pick t (Err ShortSave)
+      (first_no Err (behind_noes c.mapper (drop area save) wall) (accepted_of c (drop area save) wall))
       ≡ loaded_of c area save wall
   unfolding loaded_of
   by_short e =
       ap
-      (λ (t : Bool). pick t (loaded.Refuse ShortSave)
-      (first_no loaded.Refuse (behind_noes c.mapper (drop area save) wall) (accepted_of c (drop area save) wall)))
+      (λ (t : Bool). pick t (Err ShortSave)
+      (first_no Err (behind_noes c.mapper (drop area save) wall) (accepted_of c (drop area save) wall)))
       (sym e)
 
-  pub loaded_short : length save < area → loaded.Refuse ShortSave ≡ loaded_of c area save wall
+  pub loaded_short : length save < area → Err ShortSave ≡ loaded_of c area save wall
   loaded_short h = by_short (lt-ltb (length save) area h)
 
   -- what the battery is lent is the part of the save from the area's length on
-  pub loaded_long : {x y : declared.Loaded} → area ≤ length save
+  pub loaded_long : {x y : Result (Option Mapper) BlockRefusal} → area ≤ length save
       → x ≡ battery.load_of c.mapper (take (length save - area) (drop area save)) wall → x ≡ y
       → from_battery c y ≡ loaded_of c area save wall
   loaded_long h e g =
@@ -210,13 +202,13 @@ module _ (c : Cartridge) (area : ℕ) (save : List ℕ) (wall : ℕ) where
 -- ---- the room that is asked for, by the two tests
 
 pub room_tested : (c : Cartridge) {f b : Bool} → f ≡ fit_cart c → b ≡ c.battery
-    → first_no room.Refuse (no (not f) Unfit ∷ no (not b) NoBattery ∷ []) (room.Bytes (area_of c + battery_size (clock_in c.mapper)))
+    → first_no Err (no (not f) Unfit ∷ no (not b) NoBattery ∷ []) (Ok (area_of c + battery_size (clock_in c.mapper)))
     ≡ room_for c
 unfolding room_for
 room_tested c {f} p q =
-    let asked = room.Bytes (area_of c + battery_size (clock_in c.mapper)) in
-    ap (λ (t : Bool). first_no room.Refuse (no (not f) Unfit ∷ no (not t) NoBattery ∷ []) asked) q
-    ∙ ap (λ (t : Bool). first_no room.Refuse (no (not t) Unfit ∷ no (not c.battery) NoBattery ∷ []) asked) p
+    let asked = Ok (area_of c + battery_size (clock_in c.mapper)) in
+    ap (λ (t : Bool). first_no Err (no (not f) Unfit ∷ no (not t) NoBattery ∷ []) asked) q
+    ∙ ap (λ (t : Bool). first_no Err (no (not t) Unfit ∷ no (not c.battery) NoBattery ∷ []) asked) p
 
 -- and it is as long as the save will be
 pub room_length : (c : Cartridge) (ram : List ℕ) (wall : ℕ) → length ram ≡ area_of c

@@ -1,5 +1,5 @@
 -- What saving and loading both ask first (Order 6, Order 7).
-use Rattle.std.specs.Prelude.{not, List, [], ◌∷◌, ℕ, eqb}
+use Rattle.std.specs.Prelude.{not, List, [], ◌∷◌, ℕ, eqb, Ok, Err, Result}
 use Rattle.facts.specs.Refusals.{No, no, first_no}
 use Rattle.clock_block.specs.Waking as block
 use Rattle.cartridge.specs.Fit.{fit_cart, area_of}
@@ -13,8 +13,6 @@ use Rattle.save_file.specs.declared.SaveRefusal.TheVariants.{
   Block,
   ShortRoom,
 }
-use Rattle.save_file.specs.declared.Admitted.{Admitted}
-use Rattle.save_file.specs.declared.Admitted.TheVariants.{Yes, Refuse}
 
 abbrev pub number_of : SaveRefusal → ℕ
 number_of Unfit = 13
@@ -30,5 +28,5 @@ unfoldable pub admit_noes : Cartridge → ℕ → List (No SaveRefusal)
 admit_noes c area =
     no (not (fit_cart c)) Unfit ∷ no (not (eqb area (area_of c))) WrongLength ∷ no (not c.battery) NoBattery ∷ []
 
-unfoldable pub admit_of : Cartridge → ℕ → Admitted
-admit_of c area = first_no Refuse (admit_noes c area) Yes
+unfoldable pub admit_of : Cartridge → ℕ → Result (Unit {0}) SaveRefusal
+admit_of c area = first_no Err (admit_noes c area) (Ok tt)

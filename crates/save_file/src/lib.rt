@@ -3,6 +3,7 @@
 #![tactic(auto)]
 
 ghost use Rattle.std.specs.Prelude.{◌≡◌, ◌≤◌, length, take};
+ghost use Rattle.save_file.specs.declared.SaveRefusal.TheVariants.{Block};
 ghost use Rattle.save_file.specs.Admit.{number_of, admit_of};
 ghost use Rattle.save_file.specs.Save.{bytes_of, saved_of, room_by, save_of, room_after, room_for};
 ghost use Rattle.save_file.specs.Load.{loaded_of, area_by, load_of, area_after};
@@ -12,7 +13,7 @@ use clock_block::BlockRefusal;
 use mapper::Mapper;
 
 // Why a save is neither written nor read.
-#[derive(Drop)]
+#[derive(Clone, Copy, Debug, PartialEq, Eq)]
 pub enum SaveRefusal {
     Unfit,
     WrongLength,
@@ -22,33 +23,13 @@ pub enum SaveRefusal {
     ShortRoom,
 }
 
-#[derive(Drop)]
-pub enum Saved {
-    // How many bytes of the room are the save.
-    Wrote(usize),
-    Refuse(SaveRefusal),
-}
+// A clock's block that is refused refuses the save.
+impl From<BlockRefusal> for SaveRefusal {
+    ghost from_gives = { λ why r. r ≡ Block why };
 
-#[derive(Drop)]
-pub enum Loaded {
-    Whole(Cartridge),
-    // The RAM area was read and the cartridge is as it was.
-    RamOnly,
-    Refuse(SaveRefusal),
-}
-
-// How many bytes a save takes.
-#[derive(Drop)]
-pub enum Room {
-    Bytes(usize),
-    Refuse(SaveRefusal),
-}
-
-// Whether a cartridge with a RAM area of some length can have a save.
-#[derive(Drop)]
-pub enum Admitted {
-    Yes,
-    Refuse(SaveRefusal),
+    fn from(why: BlockRefusal) -> SaveRefusal {
+        SaveRefusal::Block(why)
+    }
 }
 
 impl SaveRefusal {
@@ -66,65 +47,65 @@ impl SaveRefusal {
     }
 }
 
-// The three tests that saving and loading begin with.
-fn admit(cart: Cartridge, area: usize) -> Admitted
+// The three tests that saving and loading begin with: whether a cartridge with a RAM area of some length can have a save.
+fn admit(cart: Cartridge, area: usize) -> Result<(), SaveRefusal>
     ensures { result ≡ admit_of cart area }
 {
     if !cart.fit() {
-        return Admitted::Refuse(SaveRefusal::Unfit);
+        return Err(SaveRefusal::Unfit);
     }
     if !cart.is_area(area) {
-        return Admitted::Refuse(SaveRefusal::WrongLength);
+        return Err(SaveRefusal::WrongLength);
     }
     if cart.battery {
-        return Admitted::Yes;
+        return Ok(());
     }
-    Admitted::Refuse(SaveRefusal::NoBattery)
+    Err(SaveRefusal::NoBattery)
 }
 
 // The room that a save of this cartridge asks for.
-pub fn ask_room(cart: Cartridge) -> Room
+pub fn ask_room(cart: Cartridge) -> Result<usize, SaveRefusal>
     ensures { result ≡ room_for cart }
 {
     if !cart.fit() {
-        return Room::Refuse(SaveRefusal::Unfit);
+        return Err(SaveRefusal::Unfit);
     }
     if !cart.battery {
-        return Room::Refuse(SaveRefusal::NoBattery);
+        return Err(SaveRefusal::NoBattery);
     }
     let mapper = cart.mapper;
-    Room::Bytes(mapper.area(cart.size) + battery::save_battery_size(mapper))
+    Ok(mapper.area(cart.size) + battery::save_battery_size(mapper))
 }
 
-fn save_admitted(mapper: Mapper, ram: &[u8], room: &mut [u8], wall: u64) -> Saved
+fn save_admitted(
+    mapper: Mapper,
+    ram: &[u8],
+    room: &mut [u8],
+    wall: u64,
+) -> Result<usize, SaveRefusal>
     ensures value { result ≡ saved_of (bytes_of mapper ram.now wall) (length room.old) }
     ensures room_after { room.new ≡ room_by (bytes_of mapper ram.now wall) room.old result }
 {
     let kept = battery::save_battery_size(mapper);
     if room.len() < ram.len() {
-        return Saved::Refuse(SaveRefusal::ShortRoom);
+        return Err(SaveRefusal::ShortRoom);
     }
     if room.len() - ram.len() < kept {
-        return Saved::Refuse(SaveRefusal::ShortRoom);
+        return Err(SaveRefusal::ShortRoom);
     }
     let start = ram.len();
     room[..start].copy_from_slice(ram);
     battery::save_battery(mapper, wall, &mut room[start..]);
-    Saved::Wrote(start + kept)
+    Ok(start + kept)
 }
 
-// Writes the save of a cartridge at this wall time to the start of the room.
-pub fn save(cart: Cartridge, ram: &[u8], room: &mut [u8], wall: u64) -> Saved
+// Writes the save of a cartridge at this wall time to the start of the room: how many bytes of it are the save.
+pub fn save(cart: Cartridge, ram: &[u8], room: &mut [u8], wall: u64) -> Result<usize, SaveRefusal>
     ensures value { result ≡ save_of cart ram.now (length room.old) wall }
     ensures room_after { room.new ≡ room_after cart ram.now room.old wall }
 {
-    match admit(cart, ram.len()) {
-        Admitted::Yes => {
-            let mapper = cart.mapper;
-            save_admitted(mapper, ram, room, wall)
-        }
-        Admitted::Refuse(why) => Saved::Refuse(why),
-    }
+    admit(cart, ram.len())?;
+    save_admitted(cart.mapper, ram, room, wall)
 }
 
 // The RAM area as a save has it.
@@ -137,37 +118,37 @@ fn restore(ram: &mut [u8], save: &[u8])
     ram.copy_from_slice(&save[start..end]);
 }
 
-fn load_admitted(cart: Cartridge, ram: &mut [u8], save: &[u8], wall: u64) -> Loaded
+fn load_admitted(
+    cart: Cartridge,
+    ram: &mut [u8],
+    save: &[u8],
+    wall: u64,
+) -> Result<Option<Cartridge>, SaveRefusal>
     ensures value { result ≡ loaded_of cart (length ram.old) save.now wall }
     ensures ram_after { ram.new ≡ area_by ram.old save.now result }
 {
     if save.len() < ram.len() {
-        return Loaded::Refuse(SaveRefusal::ShortSave);
+        return Err(SaveRefusal::ShortSave);
     }
-    let mapper = cart.mapper;
-    match battery::load_battery(mapper, &save[ram.len()..], wall) {
-        battery::Loaded::To(next) => {
-            restore(ram, save);
-            Loaded::Whole(Cartridge {
-                mapper: next,
-                ..cart
-            })
-        }
-        battery::Loaded::RamOnly => {
-            restore(ram, save);
-            Loaded::RamOnly
-        }
-        battery::Loaded::Refuse(why) => Loaded::Refuse(SaveRefusal::Block(why)),
+    let woken = battery::load_battery(cart.mapper, &save[ram.len()..], wall)?;
+    restore(ram, save);
+    match woken {
+        Some(mapper) => Ok(Some(Cartridge { mapper, ..cart })),
+        None => Ok(None),
     }
 }
 
-// Reads a save into a cartridge and its RAM area at this wall time.
-pub fn load(cart: Cartridge, ram: &mut [u8], save: &[u8], wall: u64) -> Loaded
+// Reads a save into a cartridge and its RAM area at this wall time: the cartridge with its clock, or none where the RAM area was read and
+// the cartridge is as it was.
+pub fn load(
+    cart: Cartridge,
+    ram: &mut [u8],
+    save: &[u8],
+    wall: u64,
+) -> Result<Option<Cartridge>, SaveRefusal>
     ensures value { result ≡ load_of cart (length ram.old) save.now wall }
     ensures ram_after { ram.new ≡ area_after cart ram.old save.now wall }
 {
-    match admit(cart, ram.len()) {
-        Admitted::Yes => load_admitted(cart, ram, save, wall),
-        Admitted::Refuse(why) => Loaded::Refuse(why),
-    }
+    admit(cart, ram.len())?;
+    load_admitted(cart, ram, save, wall)
 }

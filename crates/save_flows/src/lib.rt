@@ -4,19 +4,20 @@
 pub mod tables;
 
 use bus_lines::number;
+use bus_recipe::steps::Step;
 use cartridge::Cartridge;
 use clock_block::Block;
-use mount::Mounted;
 use save_lines::part;
 use std::io;
 
-// Wall times of saving, of which the first reading is too, and of three more readings, or 0.
+// How a made save is read.
 #[derive(Clone, Copy)]
-pub struct Times(pub u64, pub u64, pub u64, pub u64);
-
-// What is read of a made save: a block, how many bytes of the save at most, and the wall time.
-#[derive(Clone, Copy)]
-pub struct Reading(pub Block, pub usize, pub u64);
+pub struct Reading {
+    pub block: Block,
+    // How many bytes of the save are read at most.
+    pub most: usize,
+    pub wall: u64,
+}
 
 // Mounted at wall time 1000, filled and played, and saved at this wall time: the save's length.
 pub fn first(
@@ -24,14 +25,14 @@ pub fn first(
     rom: &[u8],
     ram: &mut [u8],
     room: &mut [u8],
-    codes: u32,
-    table: &[u32],
+    type_byte: u8,
+    table: &[Step],
     wall: u64,
 ) -> io::Result<usize> {
-    let Mounted::To(start) = mount::mount(rom, ram, 1000) else {
+    let Ok(start) = mount::mount(rom, ram, 1000) else {
         return Ok(0);
     };
-    bus_lines::heading(rt, start, codes)?;
+    bus_lines::heading(rt, start, type_byte)?;
     let filled = bus_lines::each(rt, start, rom, ram, &tables::FILLED)?;
     let cart = bus_lines::each(rt, filled, rom, ram, table)?;
     save_lines::save(rt, cart, ram, room, wall)
@@ -39,7 +40,7 @@ pub fn first(
 
 // Mounted at this wall time, the save read, the registers read, and saved again.
 fn again(rt: &impl Print, rom: &[u8], ram: &mut [u8], save: &[u8], wall: u64) -> io::Result<()> {
-    let Mounted::To(start) = mount::mount(rom, ram, wall) else {
+    let Ok(start) = mount::mount(rom, ram, wall) else {
         return Ok(());
     };
     let woken = save_lines::load(rt, start, ram, save, wall)?;
@@ -50,25 +51,24 @@ fn again(rt: &impl Print, rom: &[u8], ram: &mut [u8], save: &[u8], wall: u64) ->
     Ok(())
 }
 
-// Saved, and read at each wall time.
+// Saved at this wall time, and read then and at each of the later times.
 pub fn timed(
     rt: &impl Print,
     rom: &[u8],
     ram: &mut [u8],
-    codes: u32,
-    table: &[u32],
-    at: Times,
+    type_byte: u8,
+    table: &[Step],
+    wall: u64,
+    later: &[u64],
 ) -> io::Result<()> {
     let mut room = save_lines::room();
-    let n = first(rt, rom, ram, &mut room, codes, table, at.0)?;
+    let n = first(rt, rom, ram, &mut room, type_byte, table, wall)?;
     let save = part(&room, 0, n);
-    again(rt, rom, ram, save, at.0)?;
-    if at.1 == 0 {
-        return Ok(());
+    again(rt, rom, ram, save, wall)?;
+    for time in later {
+        again(rt, rom, ram, save, *time)?;
     }
-    again(rt, rom, ram, save, at.1)?;
-    again(rt, rom, ram, save, at.2)?;
-    again(rt, rom, ram, save, at.3)
+    Ok(())
 }
 
 // A save that no cartridge wrote: each byte of RAM a mix of its place, a block, and three bytes more. How many bytes are read of it,
@@ -94,15 +94,14 @@ fn onwards(
     rom: &[u8],
     ram: &mut [u8],
     save: Reading,
-    after: &[u32],
+    after: &[Step],
 ) -> io::Result<()> {
     let mut room = save_lines::mixed_room();
-    let block = save.0;
-    let n = made(&mut room, ram.len(), block, save.1);
+    let n = made(&mut room, ram.len(), save.block, save.most);
     number(rt, b'B', n as u64)?;
-    let next = save_lines::load(rt, cart, ram, part(&room, 0, n), save.2)?;
+    let next = save_lines::load(rt, cart, ram, part(&room, 0, n), save.wall)?;
     let last = bus_lines::each(rt, next, rom, ram, after)?;
-    save_lines::kept(rt, last, ram, save.2)
+    save_lines::kept(rt, last, ram, save.wall)
 }
 
 // Played, a made save read, and played on; what is kept before and after.
@@ -110,16 +109,16 @@ pub fn between(
     rt: &impl Print,
     rom: &[u8],
     ram: &mut [u8],
-    codes: u32,
-    before: &[u32],
+    type_byte: u8,
+    before: &[Step],
     save: Reading,
-    after: &[u32],
+    after: &[Step],
 ) -> io::Result<()> {
-    let Mounted::To(start) = mount::mount(rom, ram, save.2) else {
+    let Ok(start) = mount::mount(rom, ram, save.wall) else {
         return Ok(());
     };
-    bus_lines::heading(rt, start, codes)?;
+    bus_lines::heading(rt, start, type_byte)?;
     let cart = bus_lines::each(rt, start, rom, ram, before)?;
-    save_lines::kept(rt, cart, ram, save.2)?;
+    save_lines::kept(rt, cart, ram, save.wall)?;
     onwards(rt, cart, rom, ram, save, after)
 }

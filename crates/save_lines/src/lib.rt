@@ -6,7 +6,6 @@
 use bus_lines::{field, number};
 use bus_recipe::build;
 use cartridge::Cartridge;
-use save_file::{Loaded, Saved};
 use std::io;
 
 // A room for every save here, with bytes that no save puts there unasked.
@@ -77,13 +76,13 @@ pub fn save(
     wall: u64,
 ) -> io::Result<usize> {
     match save_file::save(cart, ram, room, wall) {
-        Saved::Wrote(n) => {
+        Ok(n) => {
             pair(rt, b"S", n as u64, bus_lines::sum(part(room, 0, n)))?;
             tail(rt, room, n)?;
             beyond(rt, room, n)?;
             Ok(n)
         }
-        Saved::Refuse(why) => {
+        Err(why) => {
             number(rt, b'X', why.number() as u64)?;
             Ok(0)
         }
@@ -95,8 +94,8 @@ pub fn kept(rt: &impl Print, cart: Cartridge, ram: &[u8], wall: u64) -> io::Resu
     number(rt, b'A', bus_lines::sum(ram))?;
     let mut room = room();
     match save_file::save(cart, ram, &mut room, wall) {
-        Saved::Wrote(n) => tail(rt, &room, n),
-        Saved::Refuse(why) => number(rt, b'X', why.number() as u64),
+        Ok(n) => tail(rt, &room, n),
+        Err(why) => number(rt, b'X', why.number() as u64),
     }
 }
 
@@ -111,15 +110,15 @@ pub fn load(
     print!(rt; "L")?;
     field(rt, wall)?;
     match save_file::load(cart, ram, save, wall) {
-        Loaded::Whole(next) => {
+        Ok(Some(next)) => {
             println!(rt; " whole")?;
             Ok(next)
         }
-        Loaded::RamOnly => {
+        Ok(None) => {
             println!(rt; " RAM only")?;
             Ok(cart)
         }
-        Loaded::Refuse(why) => {
+        Err(why) => {
             print!(rt; " X")?;
             field(rt, why.number() as u64)?;
             println!(rt)?;

@@ -9,58 +9,34 @@
 
 mod rows;
 
-ghost use Rattle.std.specs.Prelude.{◌≡◌, IfOk, vec_len};
-
-use bus_recipe::build;
-use std::alloc::{AllocError, Global};
+use bus_recipe::build::{self, Case};
+use save_cases::jobs::{Job, Moment};
 use std::io;
 
-// The parts of the image and of the RAM that the case lends: it is the RAM area's length in units of 512 bytes, the image's length,
-// and its type byte, ROM code and RAM code.
-fn cut(
-    rt: &impl Print,
-    image: &[u8],
-    ram: &mut [u8],
-    case: u64,
-    what: u64,
-    n: u64,
-) -> io::Result<()> {
-    let len = (case / 0x1000000 % 0x1000000) as usize;
-    let area = (case / 0x1_0000_0000_0000 * 512) as usize;
-    if image.len() < len {
+// The parts of the image and of the RAM that the case lends.
+fn cut(rt: &impl Print, image: &[u8], ram: &mut [u8], case: Case, job: Job) -> io::Result<()> {
+    if image.len() < case.length || ram.len() < case.area {
         return Ok(());
     }
-    if ram.len() < area {
-        return Ok(());
-    }
-    let codes = (case % 0x1000000) as u32;
-    save_cases::show(rt, &image[..len], &mut ram[..area], codes, what, n)
+    let rom = &image[..case.length];
+    save_cases::show(rt, rom, &mut ram[..case.area], case.type_byte, job)
 }
 
 fn all(
     rt: &impl Print,
     image: &mut [u8; 0x800000],
     ram: &mut [u8; 0x20200],
-    rows: &[u64],
+    rows: &[(Case, Job)],
 ) -> io::Result<()> {
-    let mut i: usize = 0;
-    while 3 <= rows.len() - i {
-        build::header(image, rows[i]);
-        cut(rt, image, ram, rows[i], rows[i + 1], rows[i + 2])?;
-        i += 3;
+    for &(case, job) in rows {
+        build::header(image, case);
+        cut(rt, image, ram, case, job)?;
     }
     Ok(())
 }
 
-// On the heap: a stack has no room for it.
-fn blank(alloc: Global) -> Result<Vec<u8>, AllocError>
-    ensures { IfOk result (λ image. vec_len image ≡ 0x800000) }
-{
-    vec![in alloc; 0; 0x800000]
-}
-
 fn main(rt: HostRuntime) -> io::Result<()> {
-    let mut bytes = blank(rt.alloc())?;
+    let mut bytes = bus_recipe::blank(rt.alloc())?;
     let Some(image) = bytes.as_mut_slice().as_mut_array() else {
         unreachable!()
     };

@@ -1,12 +1,10 @@
 -- What ships, all of it: accesses through windows or not, saves out and in, windows and mountings, in any order.
+use Rattle.std.specs.Prelude.{Ok, Err, Some, None, Result, Option}
 use mathlib.Core.List.{List, [], ◌∷◌}
 use mathlib.Core.Path.{◌≡◌, refl, sym, ap, ◌∙◌, subst}
 use Prim.Native.Nat.{ℕ}
 use Rattle.mount.specs.Mount as mount
-use Rattle.mount.specs.declared.Mounted.{Mounted}
-use Rattle.mount.specs.declared.Mounted.TheVariants as mounted
-use Rattle.save_file.specs.declared.Loaded.{Loaded}
-use Rattle.save_file.specs.declared.Loaded.TheVariants as loaded
+use Rattle.mount.specs.declared.MountRefusal.{MountRefusal}
 use Rattle.bus.specs.Run.{Machine, Ready}
 use Rattle.windows.specs.Windows.{windows_of}
 use Rattle.player.specs.Bus.{mount_number}
@@ -28,6 +26,8 @@ use Rattle.shipped.proofs.Through.{renewed_are, access_stays, through_step}
 use Rattle.shipped.proofs.PartLaws.{outs_same, passed_same}
 use Rattle.shipped.proofs.MadeThrough.{taken_apart}
 use Rattle.shipped.proofs.AlongLaws.{along_follows}
+use Rattle.cartridge.specs.declared.Cartridge.{Cartridge}
+use Rattle.save_file.specs.declared.SaveRefusal.{SaveRefusal}
 
 -- ---- the image and the area stay those of the mounting
 
@@ -40,11 +40,11 @@ serve_ready image m r (request.loads bytes wall clock) o = load_ready bytes wall
 serve_ready image m r (request.looks words) o = r
 serve_ready image m r (request.mounts wall) o = go (mount.mount_of image m.area wall) refl
   where
-    go : (x : Mounted) → mount.mount_of image m.area wall ≡ x
+    go : (x : Result Cartridge MountRefusal) → mount.mount_of image m.area wall ≡ x
         → Ready image (record { cart = cart_mounted m.cart x; area = mount.area_after image m.area wall })
-    go (mounted.To d) e = mount_ready image m.area wall d e
-    go (mounted.Refuse w) e =
-        subst (λ (l : List ℕ). Ready image (record { cart = m.cart; area = l })) (ap (λ (x : Mounted). mount.area_by x m.area) (sym e))
+    go (Ok d) e = mount_ready image m.area wall d e
+    go (Err w) e =
+        subst (λ (l : List ℕ). Ready image (record { cart = m.cart; area = l })) (ap (λ (x : Result Cartridge MountRefusal). mount.area_by x m.area) (sym e))
         (record { fit = r.fit; image = r.image; area = r.area })
 
 -- ---- and the windows where they were
@@ -56,16 +56,16 @@ module _ (image : List ℕ) (m : Machine) (h : Sound m) (r : Ready image m) wher
   serve_stays (request.saves room wall size) s = refl
   serve_stays (request.loads bytes wall clock) s = go (answer_to m bytes wall) s
     where
-      go : (x : Loaded) → (loaded_number x ≡ 0 → ⊥) → windows_of (cart_by m.cart x) ≡ windows_of m.cart
-      go (loaded.Whole d) n = absurd (n refl)
-      go loaded.RamOnly n = refl
-      go (loaded.Refuse w) n = refl
+      go : (x : Result (Option Cartridge) SaveRefusal) → (loaded_number x ≡ 0 → ⊥) → windows_of (cart_by m.cart x) ≡ windows_of m.cart
+      go (Ok (Some d)) n = absurd (n refl)
+      go (Ok None) n = refl
+      go (Err w) n = refl
   serve_stays (request.looks words) s = refl
   serve_stays (request.mounts wall) s = go (mount.mount_of image m.area wall) s
     where
-      go : (x : Mounted) → (mount_number x ≡ 0 → ⊥) → windows_of (cart_mounted m.cart x) ≡ windows_of m.cart
-      go (mounted.To d) n = absurd (n refl)
-      go (mounted.Refuse w) n = refl
+      go : (x : Result Cartridge MountRefusal) → (mount_number x ≡ 0 → ⊥) → windows_of (cart_mounted m.cart x) ≡ windows_of m.cart
+      go (Ok d) n = absurd (n refl)
+      go (Err w) n = refl
 
   -- ---- one call
 

@@ -1,4 +1,5 @@
 -- The exported calls on any bytes at all: those of a fit cartridge, in the library's own form or not, and all others.
+use Rattle.std.specs.Prelude.{Ok, Err, Some, None, Result, Option}
 use mathlib.Core.Bool.{Bool, false}
 use mathlib.Core.List.{List}
 use mathlib.Core.Path.{◌≡◌, refl, sym, ap, ◌∙◌, subst}
@@ -12,36 +13,28 @@ use Rattle.cartridge.specs.Fit.{fit_cart}
 use Rattle.cartridge.specs.With.{with_mapper}
 use Rattle.cartridge.specs.declared.Cartridge.{Cartridge}
 use Rattle.mount.specs.Mount as mount
-use Rattle.mount.specs.declared.Mounted.{Mounted}
-use Rattle.mount.specs.declared.Mounted.TheVariants as mounted
+use Rattle.mount.specs.declared.MountRefusal.{MountRefusal}
 use Rattle.save_file.specs.Admit.{admit_noes}
 use Rattle.save_file.specs.Save as save
 use Rattle.save_file.specs.Load as load
 use Rattle.save_file.specs.declared.SaveRefusal.TheVariants as unsaved
-use Rattle.save_file.specs.declared.Room.TheVariants as room
-use Rattle.save_file.specs.declared.Saved.TheVariants as saved
-use Rattle.save_file.specs.declared.Loaded.TheVariants as loaded
 use Rattle.access.specs.Verdict.{noes_by, verdict_by, noes, verdict_of}
 use Rattle.access.specs.declared.BusRefusal.TheVariants.{Unfit}
-use Rattle.access.specs.declared.Verdict.{Verdict}
-use Rattle.access.specs.declared.Verdict.TheVariants.{Refuse}
+use Rattle.access.specs.declared.Target.{Target}
+use Rattle.access.specs.declared.BusRefusal.{BusRefusal}
 use Rattle.bus.specs.Bus as bus
 use Rattle.bus.specs.Advance as advance
 use Rattle.bus.specs.Run.{Machine}
 use Rattle.bus.specs.Run as run
-use Rattle.bus.specs.declared.ReadAnswer.TheVariants as read
 use Rattle.bus.proofs.Laws.{unfit_answer}
 use Rattle.states.specs.Reading.{decode_of, mapper_at, cart_at}
 use Rattle.states.specs.Plain.{plain_mapper, plain}
 use Rattle.states.specs.OnState.{on_state}
-use Rattle.states.specs.declared.Decoded.{Decoded}
-use Rattle.states.specs.declared.Decoded.TheVariants.{To, NoState}
 use Rattle.states.proofs.Laws.{every_kind}
 use Rattle.windows.specs.Windows.{ask_of}
-use Rattle.windows.specs.declared.Asked.TheVariants as asked
 use Rattle.flat_write.specs.Calls.{write_state, state_written, area_written, advance_state, state_advanced}
 use Rattle.player.specs.Bus.{mount_state, mount_of, state_mounted, read_number, read_of, write_number, write_of, advance_number, advance_of}
-use Rattle.player.specs.Save.{room_number, room_size, size_of, size_asked, saved_number, saved_size, save_of, room_saved, size_saved, loaded_number, loaded_state, loaded_clock, load_of, state_loaded, area_loaded, clock_loaded}
+use Rattle.player.specs.Save.{size_number, size_told, size_of, size_asked, save_of, room_saved, size_saved, loaded_number, loaded_state, loaded_clock, load_of, state_loaded, area_loaded, clock_loaded}
 use Rattle.player.specs.Windows.{asked_number, asked_windows, windows_number, windows_after}
 use Rattle.shipped.specs.Along.{Out, Outs, out}
 use Rattle.shipped.specs.Sequence.{Kept, kept}
@@ -63,7 +56,7 @@ use Rattle.shipped.proofs.AlongLaws.{along_follows}
 plain_at : (s : List ℕ) (k : ℕ) → plain_mapper (mapper_at s k) ≡ mapper_at s k
 plain_at s = every_kind s (λ (k : ℕ) (m : Mapper). plain_mapper m ≡ m) refl refl refl refl refl refl refl (λ k. refl)
 
-decoded_plain : (s : List ℕ) (c : Cartridge) → decode_of s ≡ To c → plain c ≡ c
+decoded_plain : (s : List ℕ) (c : Cartridge) → decode_of s ≡ Some c → plain c ≡ c
 unfolding plain
 decoded_plain s c =
     let k = bytes.field_at 1 s 0 in
@@ -73,8 +66,8 @@ decoded_plain s c =
 
 -- no state, or that of an unfit cartridge
 pub data Other (s : List ℕ) : Type 0 where
-  none : decode_of s ≡ NoState → Other s
-  unfit : (c : Cartridge) → decode_of s ≡ To c → fit_cart c ≡ false → Other s
+  none : decode_of s ≡ None → Other s
+  unfit : (c : Cartridge) → decode_of s ≡ Some c → fit_cart c ≡ false → Other s
 
 -- what a call on a state answers and leaves is there what it does on none
 on_other : {A : Type 0} {s : List ℕ} (f : Cartridge → A) (z : A) → ((c : Cartridge) → fit_cart c ≡ false → f c ≡ z) → Other s
@@ -82,32 +75,32 @@ on_other : {A : Type 0} {s : List ℕ} (f : Cartridge → A) (z : A) → ((c : C
 on_other f z h (none e) = ap (on_state f z) e
 on_other f z h (unfit c e n) = ap (on_state f z) e ∙ h c n
 
-unfit_verdict : (c : Cartridge) (lent : Bool) (addr : ℕ) (bad : Bool) → fit_cart c ≡ false → verdict_of c lent addr bad ≡ Refuse Unfit
+unfit_verdict : (c : Cartridge) (lent : Bool) (addr : ℕ) (bad : Bool) → fit_cart c ≡ false → verdict_of c lent addr bad ≡ Err Unfit
 unfolding verdict_of noes
 unfit_verdict c lent addr bad f = ap (λ (t : Bool). verdict_by addr (noes_by t lent addr bad)) f
 
 module _ (c : Cartridge) (n : fit_cart c ≡ false) where
-  unfit_read : (image ram : List ℕ) (addr : ℕ) → bus.read_of c image ram addr ≡ read.Refuse Unfit
+  unfit_read : (image ram : List ℕ) (addr : ℕ) → bus.read_of c image ram addr ≡ Err Unfit
   unfolding bus.read_of bus.read_verdict
   unfit_read image ram addr = ap (bus.read_by c image ram addr) (unfit_verdict c (bus.lent_both c (length image) (length ram)) addr false n)
 
-  unfit_write : (ram : List ℕ) (addr byte : ℕ) → bus.write_verdict c ram addr byte ≡ Refuse Unfit
+  unfit_write : (ram : List ℕ) (addr byte : ℕ) → bus.write_verdict c ram addr byte ≡ Err Unfit
   unfolding bus.write_verdict
   unfit_write ram addr byte = unfit_verdict c (bus.lent_area c (length ram)) addr (mapper.bad_selection c.mapper addr byte) n
 
-  unfit_room : save.room_for c ≡ room.Refuse unsaved.Unfit
+  unfit_room : save.room_for c ≡ Err unsaved.Unfit
   unfolding save.room_for
   unfit_room = rw n refl
 
-  unfit_save : (ram : List ℕ) (size wall : ℕ) → save.save_of c ram size wall ≡ saved.Refuse unsaved.Unfit
+  unfit_save : (ram : List ℕ) (size wall : ℕ) → save.save_of c ram size wall ≡ Err unsaved.Unfit
   unfolding save.save_of save.save_noes admit_noes
   unfit_save ram size wall = rw n refl
 
-  unfit_load : (area : ℕ) (file : List ℕ) (wall : ℕ) → load.load_of c area file wall ≡ loaded.Refuse unsaved.Unfit
+  unfit_load : (area : ℕ) (file : List ℕ) (wall : ℕ) → load.load_of c area file wall ≡ Err unsaved.Unfit
   unfolding load.load_of load.load_noes admit_noes
   unfit_load area file wall = rw n refl
 
-  unfit_ask : ask_of c ≡ asked.Unfit
+  unfit_ask : ask_of c ≡ None
   unfolding ask_of
   unfit_ask = rw n refl
 
@@ -130,10 +123,10 @@ other_any image s area o (request.bus (run.reads addr)) =
 other_any image s area o (request.bus (run.writes addr byte)) =
     replied
     (on_other (λ c. write_number (bus.write_of c area addr byte)) 13
-    (λ c n. ap (λ (v : Verdict). write_number (bus.write_by c addr byte v)) (unfit_write c n area addr byte)) o)
+    (λ c n. ap (λ (v : Result Target BusRefusal). write_number (bus.write_by c addr byte v)) (unfit_write c n area addr byte)) o)
     refl refl
     (on_other (λ c. write_state s (bus.write_of c area addr byte)) s
-    (λ c n. ap (λ (v : Verdict). write_state s (bus.write_by c addr byte v)) (unfit_write c n area addr byte)) o)
+    (λ c n. ap (λ (v : Result Target BusRefusal). write_state s (bus.write_by c addr byte v)) (unfit_write c n area addr byte)) o)
     (on_other (λ c. bus.area_after c area addr byte) area (λ c n. ap (bus.area_by c area addr byte) (unfit_write c n area addr byte)) o)
 other_any image s area o (request.bus (run.clocks k)) =
     replied
@@ -141,14 +134,14 @@ other_any image s area o (request.bus (run.clocks k)) =
     refl refl
     (on_other (λ c. advance_state s (advance.advance_of c k)) s (λ c n. ap (advance_state s) (sym (unfit_answer c k n))) o) refl
 other_any image s area o (request.asks size) =
-    replied (on_other (λ c. room_number (save.room_for c)) 13 (λ c n. ap room_number (unfit_room c n)) o) refl
-    (on_other (λ c. room_size size (save.room_for c)) size (λ c n. ap (room_size size) (unfit_room c n)) o) refl refl
+    replied (on_other (λ c. size_number (save.room_for c)) 13 (λ c n. ap size_number (unfit_room c n)) o) refl
+    (on_other (λ c. size_told size (save.room_for c)) size (λ c n. ap (size_told size) (unfit_room c n)) o) refl refl
 other_any image s area o (request.saves room wall size) =
     let l = length room in
-    replied (on_other (λ c. saved_number (save.save_of c area l wall)) 13 (λ c n. ap saved_number (unfit_save c n area l wall)) o)
+    replied (on_other (λ c. size_number (save.save_of c area l wall)) 13 (λ c n. ap size_number (unfit_save c n area l wall)) o)
     (on_other (λ c. save.room_after c area room wall) room
     (λ c n. ap (save.room_by (save.bytes_of c.mapper area wall) room) (unfit_save c n area l wall)) o)
-    (on_other (λ c. saved_size size (save.save_of c area l wall)) size (λ c n. ap (saved_size size) (unfit_save c n area l wall)) o) refl refl
+    (on_other (λ c. size_told size (save.save_of c area l wall)) size (λ c n. ap (size_told size) (unfit_save c n area l wall)) o) refl refl
 other_any image s area o (request.loads file wall clock) =
     let l = length area in
     replied (on_other (λ c. loaded_number (load.load_of c l file wall)) 13 (λ c n. ap loaded_number (unfit_load c n l file wall)) o) refl
@@ -173,15 +166,15 @@ record Holds (own : Type 0) (l : Lent) (k : Kept) : Type 0 where
 begins : (k : Kept) → bytes.Octets k.state → Holds (Own k.state) (lent_of k) k
 begins k o = go (decode_of k.state) refl
   where
-    go : (d : Decoded) → decode_of k.state ≡ d → Holds (Own k.state) (lent (held_by k.state d) k.area) k
-    go (To c) e =
+    go : (d : Option Cartridge) → decode_of k.state ≡ d → Holds (Own k.state) (lent (held_by k.state d) k.area) k
+    go (Some c) e =
         pick_cases (λ (h : Held). Holds (Own k.state) (lent h k.area) k) (fit_cart c)
         (λ f.
         record {
-          stands = record { state = (e ∙ ap To (sym (decoded_plain k.state c e)), λ p. sym (p c e)); area = refl };
+          stands = record { state = (e ∙ ap Some (sym (decoded_plain k.state c e)), λ p. sym (p c e)); area = refl };
           sound = record { fit = f; timed = decoded_in_time k.state c o e };
         }) (λ f. record { stands = record { state = refl; area = refl }; sound = unfit c e f })
-    go NoState e = record { stands = record { state = refl; area = refl }; sound = none e }
+    go None e = record { stands = record { state = refl; area = refl }; sound = none e }
 
 other_holds : {own : Type 0} (image s area : List ℕ) → Other s → (q : Request) → Typed q
     → Holds own (on_others image s area q).left (kept (other_after image s area q) (on_others image s area q).left.area)
@@ -195,14 +188,14 @@ other_holds {own} image s area o (request.mounts wall) b = go (mount.mount_of im
     after : List ℕ
     after = mount.area_after image area wall
 
-    go : (r : Mounted) → mount.mount_of image area wall ≡ r → Holds own (lent (held_mounted s r) after) (kept (mount_state s r) after)
-    go (mounted.To c) e =
+    go : (r : Result Cartridge MountRefusal) → mount.mount_of image area wall ≡ r → Holds own (lent (held_mounted s r) after) (kept (mount_state s r) after)
+    go (Ok c) e =
         let sound = mount_sound image area wall c b e in
         record {
           stands = record { state = (decoded (record { cart = c; area = after }) sound, λ _. refl); area = refl };
           sound = sound;
         }
-    go (mounted.Refuse w) e = record { stands = record { state = refl; area = refl }; sound = o }
+    go (Err w) e = record { stands = record { state = refl; area = refl }; sound = o }
 
 held_step : {own : Type 0} (image : List ℕ) (h : Held) (area : List ℕ) (k : Kept) → Holds own (lent h area) k → (q : Request) → Typed q
     → (x : Out Reply Kept) → MadeRequest image k q x

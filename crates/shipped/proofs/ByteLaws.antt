@@ -1,4 +1,5 @@
 -- What is read of bytes of eight bits is one: of the image, of the area, and of a clock's registers.
+use Rattle.std.specs.Prelude.{Ok, Some, None, Result, Option}
 use mathlib.Core.List.{List, [], ◌∷◌}
 use Prim.Native.Nat.{ℕ, zero, suc, ◌<◌}
 use native.Mathlib.Omega.{arith}
@@ -9,13 +10,10 @@ use Rattle.facts.proofs.ChoiceLaws.{pick_has, pick_cases, bit_lt, both_left}
 use Rattle.bytes_le.specs.Little.{Octets}
 use Rattle.bytes_le.proofs.OctetLaws.{octets_at}
 use Rattle.banking.specs.Banks.{rom_place}
-use Rattle.banking.specs.declared.RamAt.{RamAt}
-use Rattle.banking.specs.declared.RamAt.TheVariants.{At, NotMapped}
 use Rattle.clock_registers.specs.Access.{readings}
 use Rattle.clock_registers.specs.declared.Registers.{Registers}
 use Rattle.clock.specs.Access.{shown_of}
 use Rattle.clock.specs.declared.Clock.{Clock}
-use Rattle.clock.specs.declared.Shown.{Shown}
 use Rattle.no_mapper.specs.Registers as none
 use Rattle.mbc1.specs.Registers as mbc1
 use Rattle.mbc2.specs.Registers as mbc2
@@ -30,8 +28,9 @@ use Rattle.window.specs.Window as window
 use Rattle.window.specs.declared.Way.{Way}
 use Rattle.cartridge.specs.declared.Cartridge.{Cartridge}
 use Rattle.access.specs.Verdict.{in_rom}
-use Rattle.access.specs.declared.Verdict.{Verdict}
-use Rattle.access.specs.declared.Verdict.TheVariants.{Rom, Ram}
+use Rattle.access.specs.declared.Target.{Target}
+use Rattle.access.specs.declared.BusRefusal.{BusRefusal}
+use Rattle.access.specs.declared.Target.TheVariants.{Rom, Ram}
 use Rattle.bus.specs.Bus as bus
 use Rattle.states.specs.Widths.{RegisterWidths, Mbc3Widths, MapperWidths, Widths}
 use Rattle.player.specs.Bus.{read_number}
@@ -55,7 +54,7 @@ register_lt r w (suc (suc (suc (suc (suc n))))) = omega arith
 shown_lt : (c : Clock) (n : ℕ) → RegisterWidths c.running → RegisterWidths c.frozen → byte_or (shown_of c n) < 256
 unfolding shown_of
 shown_lt c n running frozen =
-    pick_has (λ (x : Shown). byte_or x < 256) (ltb n 5)
+    pick_has (λ (x : Option ℕ). byte_or x < 256) (ltb n 5)
     (pick_has (λ (r : Registers). get_or (readings r) n 0 < 256) c.latched (register_lt c.frozen frozen n)
     (register_lt c.running running n))
     (omega arith)
@@ -68,9 +67,9 @@ clock_read_lt m w =
 
 -- ---- the RAM window, and the bus
 
-loaded_lt : (ram : List ℕ) → Octets ram → (p : RamAt) → window.loaded ram p < 256
-loaded_lt ram o (At i) = octets_at ram o i
-loaded_lt ram o NotMapped = omega arith
+loaded_lt : (ram : List ℕ) → Octets ram → (p : Option ℕ) → window.loaded ram p < 256
+loaded_lt ram o (Some i) = octets_at ram o i
+loaded_lt ram o None = omega arith
 
 window_read_lt : (m : Mapper) (size : ℕ) (ram : List ℕ) (addr : ℕ) → MapperWidths m → Octets ram → window.read_of m size ram addr < 256
 unfolding window.read_of mbc2.half_read
@@ -83,7 +82,7 @@ window_read_lt (Mbc5 m) size ram addr w o = loaded_lt ram o (mbc5.ram_at m size 
 
 -- an accepted read gives a byte
 pub read_lt : (c : Cartridge) (image ram : List ℕ) (addr : ℕ) → Widths c → Octets image → Octets ram
-    → read_number (bus.read_by c image ram addr (pick (in_rom addr) Rom Ram)) < 256
+    → read_number (bus.read_by c image ram addr (pick (in_rom addr) (Ok Rom) (Ok Ram))) < 256
 read_lt c image ram addr w o r =
-    pick_has (λ (v : Verdict). read_number (bus.read_by c image ram addr v) < 256) (in_rom addr)
+    pick_has (λ (v : Result Target BusRefusal). read_number (bus.read_by c image ram addr v) < 256) (in_rom addr)
     (octets_at image o (rom_place c.banks (bank_at c.mapper addr) addr)) (window_read_lt c.mapper c.size ram addr w.mapper r)

@@ -1,5 +1,6 @@
 -- Demand 2 of what ships: an image that `imf_mount` takes, a save that `imf_save_in` takes or none, and any list of reads, writes and
 -- advances through the exported calls.
+use Rattle.std.specs.Prelude.{Result, Option as Maybe}
 use mathlib.Core.List.{List}
 use mathlib.Core.Option.{Option, none, some}
 use mathlib.Core.Path.{◌≡◌, sym, ap, ◌∙◌, subst}
@@ -7,7 +8,7 @@ use Prim.Native.Nat.{ℕ, ◌<◌, ◌^◌}
 use native.Mathlib.Omega.{arith}
 use Rattle.bytes_le.specs.Little as bytes
 use Rattle.cartridge.specs.Fit.{InTime}
-use Rattle.save_file.specs.declared.Loaded.{Loaded}
+use Rattle.cartridge.specs.declared.Cartridge.{Cartridge}
 use Rattle.bus.specs.Run.{Access, run_of, Answer, Machine}
 use Rattle.player.proofs.imf_windows.Reads as imf-windows
 use Rattle.player.specs.Save.{loaded_number}
@@ -34,6 +35,7 @@ use Rattle.shipped.proofs.Mounted.{mount_leaves}
 use Rattle.shipped.proofs.MadeSaves.{request_is}
 use Rattle.shipped.proofs.MadeThrough.{windows_watch, mounted_ready, made_through_ships}
 use Rattle.shipped.proofs.NumberLaws.{save_some}
+use Rattle.save_file.specs.declared.SaveRefusal.{SaveRefusal}
 
 -- ---- calls on the bytes of a game's beginning
 
@@ -81,7 +83,7 @@ made_agrees c x octets accesses o u made =
 
 -- ---- a save that was read at the wall time of the mounting
 
-loaded_accepted : (r : Loaded) → loaded_number r ≡ 0 → Accepted r
+loaded_accepted : (r : Result (Maybe Cartridge) SaveRefusal) → loaded_number r ≡ 0 → Accepted r
 loaded_accepted r e w p = omega (arith, ap loaded_number (sym p) ∙ e, save_some w)
 
 module _ (c : Call imf-mount.Learnt) (x : MountsBy c) (octets : bytes.Octets c.passed.1.0.now) (save : List ℕ) (clock : ℕ)

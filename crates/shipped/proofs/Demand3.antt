@@ -1,4 +1,5 @@
 -- Demand 3 of what ships: `imf_advance` on any bytes.
+use Rattle.std.specs.Prelude.{Ok, Err, Some, None, Result, Option}
 use mathlib.Core.Bool.{Bool, true, false}
 use mathlib.Core.List.{List, [], ◌∷◌}
 use mathlib.Core.Logic.{inl}
@@ -19,24 +20,20 @@ use Rattle.clock.specs.declared.AdvanceRefusal.TheVariants as late
 use Rattle.clock.proofs.FitLaws.{fit_parts}
 use Rattle.clock.proofs.KeptLaws as ticking
 use Rattle.clock.proofs.AnswerLaws.{halted_answer}
+use Rattle.clock.specs.declared.AdvanceRefusal.{AdvanceRefusal}
 use Rattle.mapper.specs.declared.Mapper.{Mapper}
 use Rattle.mapper.specs.declared.Mapper.TheVariants.{NoMapper, Mbc1, Mbc2, Mbc3, Mbc5}
 use Rattle.battery.specs.Battery.{clock_in, with_clock}
-use Rattle.battery.specs.declared.Timer.TheVariants as timer
 use Rattle.cartridge.specs.Fit.{fit_cart, InTime}
 use Rattle.cartridge.specs.declared.Cartridge.{Cartridge}
 use Rattle.cartridge.proofs.Laws.{fit_registers_lem}
 use Rattle.cartridge.specs.With.{with_mapper}
 use Rattle.bus.specs.Advance as advance
 use Rattle.bus.specs.Run as run
-use Rattle.bus.specs.declared.Advanced.{Advanced}
-use Rattle.bus.specs.declared.Advanced.TheVariants as advanced
 use Rattle.states.specs.Layout.{encode_of}
 use Rattle.states.specs.Reading.{decode_of}
 use Rattle.states.specs.Plain.{plain, Used}
 use Rattle.states.specs.OnState.{on_state}
-use Rattle.states.specs.declared.Decoded.{Decoded}
-use Rattle.states.specs.declared.Decoded.TheVariants.{To, NoState}
 use Rattle.states.proofs.Back.{encoded_octets, decode_encode_same, fit_widths}
 use Rattle.flat_write.specs.Calls.{timed, advance_state, state_advanced}
 use Rattle.player.specs.Bus.{advance_number, advance_of}
@@ -68,21 +65,21 @@ made_moved c = both c.known.0 c.known.1
 
 -- ---- an advance of bytes is the cartridge's
 
-abbrev as_moved : List ℕ → Advanced → Moved
+abbrev as_moved : List ℕ → Result Cartridge AdvanceRefusal → Moved
 as_moved s r = record { number = advance_number r; state = advance_state s r }
 
-moved_cart : (s : List ℕ) (c : Cartridge) (n : ℕ) → decode_of s ≡ To c → moved_of s n ≡ as_moved s (advance.advance_of c n)
+moved_cart : (s : List ℕ) (c : Cartridge) (n : ℕ) → decode_of s ≡ Some c → moved_of s n ≡ as_moved s (advance.advance_of c n)
 unfolding advance_of state_advanced
 moved_cart s c n e =
-    ap (λ (d : Decoded). record {
+    ap (λ (d : Option Cartridge). record {
       number = on_state (λ k. advance_number (advance.advance_of k n)) 13 d;
       state = on_state (λ k. advance_state s (advance.advance_of k n)) s d;
     }) e
 
-moved_none : (s : List ℕ) (n : ℕ) → decode_of s ≡ NoState → moved_of s n ≡ record { number = 13; state = s }
+moved_none : (s : List ℕ) (n : ℕ) → decode_of s ≡ None → moved_of s n ≡ record { number = 13; state = s }
 unfolding advance_of state_advanced
 moved_none s n e =
-    ap (λ (d : Decoded). record {
+    ap (λ (d : Option Cartridge). record {
       number = on_state (λ k. advance_number (advance.advance_of k n)) 13 d;
       state = on_state (λ k. advance_state s (advance.advance_of k n)) s d;
     }) e
@@ -128,32 +125,32 @@ pub advances_join : (s : List ℕ) → Octets s → (a b : ℕ) → SameMoved (m
 advances_join s o a b = go (decode_of s) refl
   where
     -- with a timer each writes the next cartridge's bytes
-    last : (d : Cartridge) → timed d.mapper ≡ true → (r : Advanced) → advance.advance_of d b ≡ r
+    last : (d : Cartridge) → timed d.mapper ≡ true → (r : Result Cartridge AdvanceRefusal) → advance.advance_of d b ≡ r
         → SameMoved (as_moved s r) (as_moved (encode_of d) r)
-    last d t (advanced.To e) p =
+    last d t (Ok e) p =
         let h = timed_stays d e b p ∙ t in
         same_is (record_with (ap (λ (x : Bool). pick x (encode_of e) s) h ∙ sym (ap (λ (x : Bool). pick x (encode_of e) (encode_of d)) h)))
-    last d t (advanced.Refuse late.Unfit) p = record { number = refl; state = λ z. absurd (omega (arith, z)) }
-    last d t (advanced.Refuse late.Late) p = record { number = refl; state = λ z. absurd (omega (arith, z)) }
+    last d t (Err late.Unfit) p = record { number = refl; state = λ z. absurd (omega (arith, z)) }
+    last d t (Err late.Late) p = record { number = refl; state = λ z. absurd (omega (arith, z)) }
 
-    next : (c : Cartridge) → decode_of s ≡ To c → (r : Advanced) → advance.advance_of c a ≡ r
+    next : (c : Cartridge) → decode_of s ≡ Some c → (r : Result Cartridge AdvanceRefusal) → advance.advance_of c a ≡ r
         → SameMoved (as_moved s (then_advance r b)) (then_moved (as_moved s r) b)
-    next c p (advanced.To d) e =
+    next c p (Ok d) e =
         let t = laws.advance_taken c d a e in
         let early = subst (λ (x : Cartridge). InTime x.mapper) (sym t.is)
         (timing.clocks_in_time c.mapper a t.early (decoded_in_time s c o p)) in
         pick_cases (λ (l : List ℕ). SameMoved (as_moved s (advance.advance_of d b)) (moved_of l b)) (timed d.mapper)
         (λ h. same_trans (last d h (advance.advance_of d b) refl) (same_is (sym (moved_encoded d b (laws.advance_fit c d a e) early))))
-        (λ h. same_is (sym (moved_cart s d b (p ∙ ap To (sym (untimed_still c d a e h))))))
-    next c p (advanced.Refuse late.Unfit) e = same_is refl
-    next c p (advanced.Refuse late.Late) e = same_is refl
+        (λ h. same_is (sym (moved_cart s d b (p ∙ ap Some (sym (untimed_still c d a e h))))))
+    next c p (Err late.Unfit) e = same_is refl
+    next c p (Err late.Late) e = same_is refl
 
-    go : (d : Decoded) → decode_of s ≡ d → SameMoved (moved_of s (a + b)) (then_moved (moved_of s a) b)
-    go (To c) p =
+    go : (d : Option Cartridge) → decode_of s ≡ d → SameMoved (moved_of s (a + b)) (then_moved (moved_of s a) b)
+    go (Some c) p =
         same_trans (same_is (moved_cart s c (a + b) p ∙ ap (as_moved s) (advances_joined c a b)))
         (same_trans (next c p (advance.advance_of c a) refl)
         (same_is (ap (λ (x : Moved). then_moved x b) (sym (moved_cart s c a p)))))
-    go NoState p =
+    go None p =
         same_is (moved_none s (a + b) p ∙ ap (λ (x : Moved). then_moved x b) (sym (moved_none s a p)))
 
 -- ---- Demand 3: "an advance by n is n single ticks"
@@ -172,13 +169,13 @@ advanced_octets : (s : List ℕ) (n : ℕ) → Octets s → Octets (state_advanc
 unfolding state_advanced
 advanced_octets s n o = go (decode_of s)
   where
-    left : (r : Advanced) → Octets (advance_state s r)
-    left (advanced.To c) = pick_has Octets (timed c.mapper) (encoded_octets c) o
-    left (advanced.Refuse w) = o
+    left : (r : Result Cartridge AdvanceRefusal) → Octets (advance_state s r)
+    left (Ok c) = pick_has Octets (timed c.mapper) (encoded_octets c) o
+    left (Err w) = o
 
-    go : (d : Decoded) → Octets (on_state (λ c. advance_state s (advance.advance_of c n)) s d)
-    go (To c) = left (advance.advance_of c n)
-    go NoState = o
+    go : (d : Option Cartridge) → Octets (on_state (λ c. advance_state s (advance.advance_of c n)) s d)
+    go (Some c) = left (advance.advance_of c n)
+    go None = o
 
 -- where one by 1 + n is taken, so is the one by 1, and after it the one by n, which leaves the same bytes.
 record Parts (s : List ℕ) (n : ℕ) : Type 0 where
@@ -227,25 +224,25 @@ advance_is_ones n image s ram o z made = all_made_are made ∙ ones_of n image s
 -- ---- Demand 3: "44,236,800 seconds, 512 days, is the period, and nothing less"
 
 -- with a timer all is used,
-timer_used : (m : Mapper) (k j : Clock) → clock_in m ≡ timer.Clock k → Used (with_clock m j)
+timer_used : (m : Mapper) (k j : Clock) → clock_in m ≡ Some k → Used (with_clock m j)
 timer_used (NoMapper m) k j e = tt
 timer_used (Mbc1 m) k j e = tt
 timer_used (Mbc2 m) k j e = tt
 timer_used (Mbc3 m) k j e = inl (go m.timer e)
   where
-    go : (t : Bool) → pick t (timer.Clock m.clock) timer.Nothing ≡ timer.Clock k → t ≡ true
+    go : (t : Bool) → pick t (Some m.clock) None ≡ Some k → t ≡ true
     go true p = refl
     go false p = let z : ◌≡◌ {A = ℕ} 0 1 = cc in absurd (omega arith)
 timer_used (Mbc5 m) k j e = tt
 
 -- and the bytes are written,
-timer_timed : (m : Mapper) (k j : Clock) → clock_in m ≡ timer.Clock k → timed (with_clock m j) ≡ true
+timer_timed : (m : Mapper) (k j : Clock) → clock_in m ≡ Some k → timed (with_clock m j) ≡ true
 timer_timed (NoMapper m) k j e = let z : ◌≡◌ {A = ℕ} 0 1 = cc in absurd (omega arith)
 timer_timed (Mbc1 m) k j e = let z : ◌≡◌ {A = ℕ} 0 1 = cc in absurd (omega arith)
 timer_timed (Mbc2 m) k j e = let z : ◌≡◌ {A = ℕ} 0 1 = cc in absurd (omega arith)
 timer_timed (Mbc3 m) k j e = go m.timer e
   where
-    go : (t : Bool) → pick t (timer.Clock m.clock) timer.Nothing ≡ timer.Clock k → t ≡ true
+    go : (t : Bool) → pick t (Some m.clock) None ≡ Some k → t ≡ true
     go true p = refl
     go false p = let z : ◌≡◌ {A = ℕ} 0 1 = cc in absurd (omega arith)
 timer_timed (Mbc5 m) k j e = let z : ◌≡◌ {A = ℕ} 0 1 = cc in absurd (omega arith)
@@ -261,22 +258,22 @@ timed_fit : (c : Cartridge) (k : Clock) → Timed c k → fit_clock k ≡ true
 timed_fit c k t = clock_fits c.mapper k t.clock (fit_registers_lem c t.fit)
 
 -- so that the cartridge comes back from its bytes
-back : (c : Cartridge) (k j : Clock) (n : ℕ) → Timed c k → advance.advance_of c n ≡ advanced.To (with_clock_of c j) → j.time < 2 ^ 64
-    → decode_of (encode_of (with_clock_of c j)) ≡ To (with_clock_of c j)
+back : (c : Cartridge) (k j : Clock) (n : ℕ) → Timed c k → advance.advance_of c n ≡ Ok (with_clock_of c j) → j.time < 2 ^ 64
+    → decode_of (encode_of (with_clock_of c j)) ≡ Some (with_clock_of c j)
 back c k j n t a h =
     let d = with_clock_of c j in
     decode_encode_same d (fit_widths d (laws.advance_fit c d n a) (in_time_with c.mapper j h)) (timer_used c.mapper k j t.clock)
 
 -- Bytes of a fit cartridge with a timer: `imf_advance` by a period answers 0, and the bytes that it leaves are those of the same
 -- cartridge with the same second, minute, hour and day, the carry set and the time that much later,
-pub period_comes_back : (s : List ℕ) (c : Cartridge) (k : Clock) → decode_of s ≡ To c → Timed c k → Proper k.running
+pub period_comes_back : (s : List ℕ) (c : Cartridge) (k : Clock) → decode_of s ≡ Some c → Timed c k → Proper k.running
     → k.running.halt ≡ false → k.time + period ≤ 18446744073709551615
     → (moved_of s (seconds_of period) ≡ record { number = 0; state = encode_of (with_clock_of c (period_on k)) })
-    × (decode_of (state_advanced s (seconds_of period)) ≡ To (with_clock_of c (period_on k)))
+    × (decode_of (state_advanced s (seconds_of period)) ≡ Some (with_clock_of c (period_on k)))
 period_comes_back s c k e t p h l =
     let r = k.running in
     let f = timed_fit c k t in
-    let a : advance.advance_of c (seconds_of period) ≡ advanced.To (with_clock_of c (period_on k)) =
+    let a : advance.advance_of c (seconds_of period) ≡ Ok (with_clock_of c (period_on k)) =
     clock_advance c k (seconds_of period) t
     ∙ ap (from_clock c)
     (taken_seconds k period f h l
@@ -289,9 +286,9 @@ period_comes_back s c k e t p h l =
     (m, ap (λ (x : Moved). decode_of x.state) m ∙ back c k (period_on k) (seconds_of period) t a (omega arith))
 
 -- and no smaller positive number of seconds leaves bytes with that time.
-pub period_is_least : (s : List ℕ) (c d : Cartridge) (k j : Clock) (n : ℕ) → Octets s → decode_of s ≡ To c → Timed c k
+pub period_is_least : (s : List ℕ) (c d : Cartridge) (k j : Clock) (n : ℕ) → Octets s → decode_of s ≡ Some c → Timed c k
     → Proper k.running → k.running.halt ≡ false → 0 < n → n < period → advance_of s (seconds_of n) ≡ 0
-    → decode_of (state_advanced s (seconds_of n)) ≡ To d → clock_in d.mapper ≡ timer.Clock j
+    → decode_of (state_advanced s (seconds_of n)) ≡ Some d → clock_in d.mapper ≡ Some j
     → SameTime j.running k.running → ⊥
 period_is_least s c d k j n o e t p h pos less zero' left has same =
     go (advance.advance_of c (seconds_of n)) refl
@@ -299,11 +296,11 @@ period_is_least s c d k j n o e t p h pos less zero' left has same =
     moved : moved_of s (seconds_of n) ≡ as_moved s (advance.advance_of c (seconds_of n))
     moved = moved_cart s c (seconds_of n) e
 
-    number : (r : Advanced) → advance.advance_of c (seconds_of n) ≡ r → advance_number r ≡ 0
+    number : (r : Result Cartridge AdvanceRefusal) → advance.advance_of c (seconds_of n) ≡ r → advance_number r ≡ 0
     number r a = ap advance_number (sym a) ∙ sym (ap (λ (x : Moved). x.number) moved) ∙ zero'
 
-    go : (r : Advanced) → advance.advance_of c (seconds_of n) ≡ r → ⊥
-    go (advanced.To b) a =
+    go : (r : Result Cartridge AdvanceRefusal) → advance.advance_of c (seconds_of n) ≡ r → ⊥
+    go (Ok b) a =
         let x = timed_taken c k (seconds_of n) t b a in
         let f = timed_fit c k t in
         let u = laws.advance_taken c b (seconds_of n) a in
@@ -313,37 +310,37 @@ period_is_least s c d k j n o e t p h pos less zero' left has same =
         let came = decode_encode_same b (fit_widths b (laws.advance_fit c b (seconds_of n) a) early) used in
         let has_timer_lem = ap (λ (y : Cartridge). timed y.mapper) x.is ∙ timer_timed c.mapper k x.clock t.clock in
         let state = ap (λ (y : Moved). y.state) moved ∙ ap (advance_state s) a ∙ ap (λ (h : Bool). pick h (encode_of b) s) has_timer_lem in
-        let q : To b ≡ To d = sym came ∙ ap decode_of (sym state) ∙ left in
+        let q : Some b ≡ Some d = sym came ∙ ap decode_of (sym state) ∙ left in
         let is : b ≡ d = cc in
         let z = timed_clock c k (seconds_of n) t j b x (ap (λ (y : Cartridge). clock_in y.mapper) is ∙ has) in
         let w = sym z ∙ (ticking.advance_taken k x.clock (seconds_of n) x.taken).is ∙ whole_seconds k n f h in
         no_sooner k.running (fit_parts k f).running p n pos less (subst (λ (y : Clock). SameTime y.running k.running) w same)
-    go (advanced.Refuse late.Unfit) a = omega (arith, number (advanced.Refuse late.Unfit) a)
-    go (advanced.Refuse late.Late) a = omega (arith, number (advanced.Refuse late.Late) a)
+    go (Err late.Unfit) a = omega (arith, number (Err late.Unfit) a)
+    go (Err late.Late) a = omega (arith, number (Err late.Late) a)
 
 -- ---- a halted clock
 
 -- put back where it stands, a clock changes nothing
-same_clock : (m : Mapper) (k : Clock) → clock_in m ≡ timer.Clock k → with_clock m k ≡ m
+same_clock : (m : Mapper) (k : Clock) → clock_in m ≡ Some k → with_clock m k ≡ m
 same_clock (NoMapper m) k e = refl
 same_clock (Mbc1 m) k e = refl
 same_clock (Mbc2 m) k e = refl
 same_clock (Mbc3 m) k e = go m.timer e
   where
-    go : (t : Bool) → pick t (timer.Clock m.clock) timer.Nothing ≡ timer.Clock k → with_clock (Mbc3 m) k ≡ Mbc3 m
+    go : (t : Bool) → pick t (Some m.clock) None ≡ Some k → with_clock (Mbc3 m) k ≡ Mbc3 m
     go true p =
         let q : m.clock ≡ k = cc in
         ap (λ (x : Clock). with_clock (Mbc3 m) x) (sym q)
     go false p = let z : ◌≡◌ {A = ℕ} 0 1 = cc in absurd (omega arith)
 same_clock (Mbc5 m) k e = refl
 
-timer_time : (m : Mapper) (k : Clock) → clock_in m ≡ timer.Clock k → InTime m → k.time < 2 ^ 64
+timer_time : (m : Mapper) (k : Clock) → clock_in m ≡ Some k → InTime m → k.time < 2 ^ 64
 timer_time (NoMapper m) k e h = let z : ◌≡◌ {A = ℕ} 0 1 = cc in absurd (omega arith)
 timer_time (Mbc1 m) k e h = let z : ◌≡◌ {A = ℕ} 0 1 = cc in absurd (omega arith)
 timer_time (Mbc2 m) k e h = let z : ◌≡◌ {A = ℕ} 0 1 = cc in absurd (omega arith)
 timer_time (Mbc3 m) k e h = go m.timer refl e
   where
-    go : (t : Bool) → m.timer ≡ t → pick t (timer.Clock m.clock) timer.Nothing ≡ timer.Clock k → k.time < 2 ^ 64
+    go : (t : Bool) → m.timer ≡ t → pick t (Some m.clock) None ≡ Some k → k.time < 2 ^ 64
     go true q p =
         let same : m.clock ≡ k = cc in
         subst (λ (x : Clock). x.time < 2 ^ 64) same (h q)
@@ -351,11 +348,11 @@ timer_time (Mbc3 m) k e h = go m.timer refl e
 timer_time (Mbc5 m) k e h = let z : ◌≡◌ {A = ℕ} 0 1 = cc in absurd (omega arith)
 
 -- Bytes of a fit cartridge whose clock is halted: `imf_advance` by any n answers 0, and leaves the bytes of the same cartridge.
-pub halted_stays : (s : List ℕ) (c : Cartridge) (k : Clock) (n : ℕ) → Octets s → decode_of s ≡ To c → Timed c k → k.running.halt ≡ true
+pub halted_stays : (s : List ℕ) (c : Cartridge) (k : Clock) (n : ℕ) → Octets s → decode_of s ≡ Some c → Timed c k → k.running.halt ≡ true
     → moved_of s n ≡ record { number = 0; state = encode_of c }
 halted_stays s c k n o e t h =
     let early = timer_time c.mapper k t.clock (decoded_in_time s c o e) in
-    let a : advance.advance_of c n ≡ advanced.To (with_clock_of c k) =
+    let a : advance.advance_of c n ≡ Ok (with_clock_of c k) =
     clock_advance c k n t ∙ ap (from_clock c) (sym (halted_answer k n (timed_fit c k t) h early)) in
     moved_cart s c n e ∙ ap (as_moved s) a
     ∙ ap (λ (b : Bool). record { number = 0; state = pick b (encode_of (with_clock_of c k)) s }) (timer_timed c.mapper k k t.clock)

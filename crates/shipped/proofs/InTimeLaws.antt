@@ -1,4 +1,5 @@
 -- No call takes a clock's time past 64 bits: writes leave it, an advance and a load are refused before.
+use Rattle.std.specs.Prelude.{Option}
 use mathlib.Core.Bool.{Bool, true, false}
 use mathlib.Core.Path.{◌≡◌, refl}
 use Prim.Native.Nat.{ℕ, ◌<◌, ◌^◌}
@@ -7,11 +8,10 @@ use lib.Dec.{ltb}
 use borrow.Author.Tests.{ltb-false}
 use Rattle.facts.specs.Choice.{pick, both}
 use Rattle.facts.proofs.ChoiceLaws.{pick_has}
-use Rattle.banking.specs.declared.RamAt.{RamAt}
 use Rattle.clock.specs.Access.{latched_of, written_of}
 use Rattle.clock.specs.Ticking as clock
 use Rattle.clock.specs.Ticking.{ticks}
-use Rattle.clock.specs.declared.Written.{Written}
+use Rattle.clock.specs.declared.Clock.{Clock}
 use Rattle.clock_block.specs.Waking.{woken_of}
 use Rattle.clock_block.specs.Waking as block
 use Rattle.clock_block.specs.declared.Block.{Block}
@@ -66,9 +66,9 @@ written_in_time (Mbc5 m) addr byte h = h
 
 clock_or_in_time : (m : declared.Mbc3) (n byte : ℕ) → Timed m → Timed (clock_or m (written_of m.clock n byte))
 unfolding written_of
-clock_or_in_time m n byte h = pick_has (λ (w : Written). Timed (clock_or m w)) (ltb n 5) h h
+clock_or_in_time m n byte h = pick_has (λ (w : Option Clock). Timed (clock_or m w)) (ltb n 5) h h
 
-selected_in_time : (b : Bool) (m : declared.Mbc3) (p : RamAt) (byte : ℕ) → Timed m
+selected_in_time : (b : Bool) (m : declared.Mbc3) (p : Option ℕ) (byte : ℕ) → Timed m
     → InTime (window.mapper_by (pick b (Bytes p) (Timer m)) (Mbc3 m) byte)
 unfolding window_written
 selected_in_time true m p byte h = h

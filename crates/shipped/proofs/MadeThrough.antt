@@ -1,4 +1,5 @@
 -- Accesses that were made through windows, one after the other.
+use Rattle.std.specs.Prelude.{Some}
 use mathlib.Core.List.{List, [], ◌∷◌}
 use mathlib.Core.Path.{◌≡◌, sym, ap, ◌∙◌, subst}
 use Prim.Native.Nat.{ℕ}
@@ -7,7 +8,6 @@ use Rattle.cartridge.specs.declared.Cartridge.{Cartridge}
 use Rattle.bus.specs.Run.{Access, Machine, run_of, Ready}
 use Rattle.states.specs.Layout.{encode_of}
 use Rattle.states.specs.Reading.{decode_of}
-use Rattle.states.specs.declared.Decoded.TheVariants.{To}
 use Rattle.player.specs.Windows.{windows_after}
 use Rattle.player.proofs.imf_mount.Reads as imf-mount
 use Rattle.player.proofs.imf_windows.Reads as imf-windows
@@ -50,7 +50,7 @@ watched_mounted c x d e =
     windows_watch c.passed.1.0.now (mounted_by c x) d e (mount_leaves c ∙ x.left) x.sound (mounted_ready c x)
 
 -- So it is with bytes that were kept, as the library wrote them, and an image and an area of the lengths that they want.
-pub watched_again : (image s ram : List ℕ) (c : Cartridge) → bytes.Octets s → decode_of s ≡ To c → encode_of c ≡ s
+pub watched_again : (image s ram : List ℕ) (c : Cartridge) → bytes.Octets s → decode_of s ≡ Some c → encode_of c ≡ s
     → Ready image (record { cart = c; area = ram }) → (d : Call imf-windows.Learnt) → d.passed.0.now ≡ s
     → Watches image (record { cart = c; area = ram }) (watched (kept s ram) d.left.1.0.now)
 watched_again image s ram c o e own r d p =

@@ -1,4 +1,5 @@
 -- The bus's calls on a cartridge and on its plain one: answered alike, and what they leave has the same bytes.
+use Rattle.std.specs.Prelude.{Ok, Err, Result}
 use mathlib.Core.Bool.{Bool, true, false, not}
 use mathlib.Core.List.{List, [], ◌∷◌}
 use mathlib.Core.Path.{◌≡◌, refl, sym, ap, ◌∙◌}
@@ -11,6 +12,7 @@ use Rattle.facts.proofs.ChoiceLaws.{pick_has}
 use Rattle.banking.specs.Banks.{rom_place}
 use Rattle.clock.specs.Ticking.{ticks}
 use Rattle.clock.specs.declared.AdvanceRefusal.TheVariants.{Unfit, Late}
+use Rattle.clock.specs.declared.AdvanceRefusal.{AdvanceRefusal}
 use Rattle.image.specs.Image.{byte_at}
 use Rattle.mbc3.specs.Registers.{with_clock}
 use Rattle.mbc3.specs.declared.Mbc3 as mbc3-state
@@ -22,14 +24,11 @@ use Rattle.cartridge.specs.Fit.{fit_cart}
 use Rattle.cartridge.specs.With.{with_mapper}
 use Rattle.cartridge.specs.declared.Cartridge.{Cartridge}
 use Rattle.access.specs.Verdict.{noes_by, verdict_by, noes, verdict_of}
-use Rattle.access.specs.declared.Verdict.{Verdict}
-use Rattle.access.specs.declared.Verdict.TheVariants as verdict
+use Rattle.access.specs.declared.Target.{Target}
+use Rattle.access.specs.declared.BusRefusal.{BusRefusal}
+use Rattle.access.specs.declared.Target.TheVariants.{Rom, Ram}
 use Rattle.bus.specs.Bus as bus
 use Rattle.bus.specs.Advance as advance
-use Rattle.bus.specs.declared.ReadAnswer.TheVariants as read
-use Rattle.bus.specs.declared.WriteAnswer.{WriteAnswer}
-use Rattle.bus.specs.declared.Advanced.{Advanced}
-use Rattle.bus.specs.declared.Advanced.TheVariants as advanced
 use Rattle.states.specs.Layout.{encode_of}
 use Rattle.states.specs.Plain.{plain_mapper, plain}
 use Rattle.states.proofs.Back.{encode_plain, fit_plain}
@@ -75,16 +74,16 @@ unfolding bus.read_of plain
 read_plain c rom ram addr =
     ap (bus.read_by (plain c) rom ram addr) (read_verdict_lem c rom ram addr) ∙ go (bus.read_verdict c rom ram addr)
   where
-    go : (v : Verdict) → bus.read_by (plain c) rom ram addr v ≡ bus.read_by c rom ram addr v
-    go verdict.Rom =
-        ap (λ (n : ℕ). read.Byte (byte_at rom (rom_place c.banks n addr))) (unused.bank_plain c.mapper addr)
-    go verdict.Ram = ap read.Byte (unused.read_plain c.mapper c.size ram addr)
-    go (verdict.Refuse w) = refl
+    go : (v : Result Target BusRefusal) → bus.read_by (plain c) rom ram addr v ≡ bus.read_by c rom ram addr v
+    go (Ok Rom) =
+        ap (λ (n : ℕ). Ok (byte_at rom (rom_place c.banks n addr))) (unused.bank_plain c.mapper addr)
+    go (Ok Ram) = ap Ok (unused.read_plain c.mapper c.size ram addr)
+    go (Err w) = refl
 
 -- ---- a write
 
 -- two answers that a player cannot tell apart
-pub record SameWrite (x y : WriteAnswer) : Type 0 where
+pub record SameWrite (x y : Result Cartridge BusRefusal) : Type 0 where
   pub number : write_number x ≡ write_number y
   pub state : (s : List ℕ) → write_state s x ≡ write_state s y
 
@@ -101,22 +100,22 @@ write_plain c ram addr byte =
     let e = ap (bus.write_by (plain c) addr byte) (write_verdict_lem c ram addr byte) in
     record { number = ap write_number e ∙ both.number; state = λ s. ap (write_state s) e ∙ both.state s }
   where
-    go : (v : Verdict) → SameWrite (bus.write_by (plain c) addr byte v) (bus.write_by c addr byte v)
-    go verdict.Rom =
+    go : (v : Result Target BusRefusal) → SameWrite (bus.write_by (plain c) addr byte v) (bus.write_by c addr byte v)
+    go (Ok Rom) =
         record { number = refl; state = λ s. same_bytes c _ _ (unused.written_plain c.mapper addr byte) }
-    go verdict.Ram =
+    go (Ok Ram) =
         record { number = refl; state = λ s. same_bytes c _ _ (unused.after_plain c.mapper c.size addr byte) }
-    go (verdict.Refuse w) = record { number = refl; state = λ s. refl }
+    go (Err w) = record { number = refl; state = λ s. refl }
 
 pub store_plain : (c : Cartridge) (ram : List ℕ) (addr byte : ℕ) → bus.area_after (plain c) ram addr byte ≡ bus.area_after c ram addr byte
 unfolding bus.area_after plain
 store_plain c ram addr byte =
     ap (bus.area_by (plain c) ram addr byte) (write_verdict_lem c ram addr byte) ∙ go (bus.write_verdict c ram addr byte)
   where
-    go : (v : Verdict) → bus.area_by (plain c) ram addr byte v ≡ bus.area_by c ram addr byte v
-    go verdict.Rom = refl
-    go verdict.Ram = unused.area_plain c.mapper c.size ram addr byte
-    go (verdict.Refuse w) = refl
+    go : (v : Result Target BusRefusal) → bus.area_by (plain c) ram addr byte v ≡ bus.area_by c ram addr byte v
+    go (Ok Rom) = refl
+    go (Ok Ram) = unused.area_plain c.mapper c.size ram addr byte
+    go (Err w) = refl
 
 -- ---- passing clocks
 
@@ -136,30 +135,30 @@ untimed_on (Mbc3 m) n e = ap (λ (b : Bool). Mbc3 (pick b (with_clock m (ticks n
 untimed_on (Mbc5 m) n e = refl
 
 -- whether there is a timer stays, and without one so does all else
-pub timed_stays : (c d : Cartridge) (n : ℕ) → advance.advance_of c n ≡ advanced.To d → timed d.mapper ≡ timed c.mapper
+pub timed_stays : (c d : Cartridge) (n : ℕ) → advance.advance_of c n ≡ Ok d → timed d.mapper ≡ timed c.mapper
 timed_stays c d n e = ap (λ (x : Cartridge). timed x.mapper) (laws.advance_taken c d n e).is ∙ timed_on c.mapper n
 
-pub untimed_still : (c d : Cartridge) (n : ℕ) → advance.advance_of c n ≡ advanced.To d → timed d.mapper ≡ false → d ≡ c
+pub untimed_still : (c d : Cartridge) (n : ℕ) → advance.advance_of c n ≡ Ok d → timed d.mapper ≡ false → d ≡ c
 untimed_still c d n e h =
     (laws.advance_taken c d n e).is ∙ ap (with_mapper c) (untimed_on c.mapper n (sym (timed_stays c d n e) ∙ h))
 
-pub record SameAdvance (x y : Advanced) : Type 0 where
+pub record SameAdvance (x y : Result Cartridge AdvanceRefusal) : Type 0 where
   pub number : advance_number x ≡ advance_number y
   pub state : (s : List ℕ) → advance_state s x ≡ advance_state s y
 
 pub advance_plain : (c : Cartridge) (n : ℕ) → SameAdvance (advance.advance_of (plain c) n) (advance.advance_of c n)
 unfolding advance.advance_of plain
 advance_plain c n =
-    let next = advanced.To (with_mapper c (mapper.clocks_on (plain_mapper c.mapper) n)) in
-    let e = ap (λ (t : Bool). first_no advanced.Refuse (no (not t) Unfit ∷ no (mapper.late (plain_mapper c.mapper) n) Late ∷ []) next) (fit_plain c)
-    ∙ ap (λ (t : Bool). first_no advanced.Refuse (no (not (fit_cart c)) Unfit ∷ no t Late ∷ []) next) (unused.late_plain c.mapper n) in
+    let next = Ok (with_mapper c (mapper.clocks_on (plain_mapper c.mapper) n)) in
+    let e = ap (λ (t : Bool). first_no Err (no (not t) Unfit ∷ no (mapper.late (plain_mapper c.mapper) n) Late ∷ []) next) (fit_plain c)
+    ∙ ap (λ (t : Bool). first_no Err (no (not (fit_cart c)) Unfit ∷ no t Late ∷ []) next) (unused.late_plain c.mapper n) in
     let both = go (not (fit_cart c)) (mapper.late c.mapper n) in
     record { number = ap advance_number e ∙ both.number; state = λ s. ap (advance_state s) e ∙ both.state s }
   where
     go : (t u : Bool)
         → SameAdvance
-        (first_no advanced.Refuse (no t Unfit ∷ no u Late ∷ []) (advanced.To (with_mapper c (mapper.clocks_on (plain_mapper c.mapper) n))))
-        (first_no advanced.Refuse (no t Unfit ∷ no u Late ∷ []) (advanced.To (with_mapper c (mapper.clocks_on c.mapper n))))
+        (first_no Err (no t Unfit ∷ no u Late ∷ []) (Ok (with_mapper c (mapper.clocks_on (plain_mapper c.mapper) n))))
+        (first_no Err (no t Unfit ∷ no u Late ∷ []) (Ok (with_mapper c (mapper.clocks_on c.mapper n))))
     go true u = record { number = refl; state = λ s. refl }
     go false true = record { number = refl; state = λ s. refl }
     go false false =

@@ -1,4 +1,5 @@
 -- Saves of a cartridge and of its plain one: answered alike, and what they leave has the same bytes.
+use Rattle.std.specs.Prelude.{Ok, Err, Some, None, Result, Option}
 use mathlib.Core.Bool.{Bool, true, false, not}
 use mathlib.Core.List.{List, [], ◌∷◌, ◌++◌}
 use mathlib.Core.Path.{◌≡◌, refl, ap, ◌∙◌}
@@ -14,7 +15,6 @@ use Rattle.mbc3.specs.declared.Mbc3 as mbc3-state
 use Rattle.mapper.specs.declared.Mapper.{Mapper}
 use Rattle.mapper.specs.declared.Mapper.TheVariants.{NoMapper, Mbc1, Mbc2, Mbc3, Mbc5}
 use Rattle.battery.specs.Battery.{clock_in, has_clock, with_clock, battery_bytes, battery_size}
-use Rattle.battery.specs.declared.Timer.{Timer}
 use Rattle.cartridge.specs.Fit.{fit_cart, area_of}
 use Rattle.cartridge.specs.With.{with_mapper}
 use Rattle.cartridge.specs.declared.Cartridge.{Cartridge}
@@ -23,10 +23,6 @@ use Rattle.save_file.specs.Save as save
 use Rattle.save_file.specs.Load as load
 use Rattle.save_file.specs.declared.SaveRefusal.{SaveRefusal}
 use Rattle.save_file.specs.declared.SaveRefusal.TheVariants.{Unfit, WrongLength, NoBattery, ShortSave, Block, ShortRoom}
-use Rattle.save_file.specs.declared.Room.TheVariants as room
-use Rattle.save_file.specs.declared.Saved.TheVariants as saved
-use Rattle.save_file.specs.declared.Loaded.{Loaded}
-use Rattle.save_file.specs.declared.Loaded.TheVariants as loaded
 use Rattle.states.specs.Layout.{encode_of}
 use Rattle.states.specs.Plain.{plain_mbc3, plain_mapper, plain}
 use Rattle.states.proofs.Back.{fit_plain}
@@ -50,7 +46,7 @@ with_clock_plain (Mbc3 m) k =
 with_clock_plain (Mbc5 m) k = refl
 
 -- what three tests of a cartridge decide is the same of its plain one
-by_three : {A : Type 0} (f : Bool → ℕ → Timer → A) (c : Cartridge)
+by_three : {A : Type 0} (f : Bool → ℕ → Option Clock → A) (c : Cartridge)
     → f (fit_cart (plain c)) (area_of (plain c)) (clock_in (plain c).mapper) ≡ f (fit_cart c) (area_of c) (clock_in c.mapper)
 unfolding plain
 by_three f c =
@@ -63,50 +59,50 @@ by_three f c =
 pub room_plain : (c : Cartridge) → save.room_for (plain c) ≡ save.room_for c
 unfolding save.room_for plain
 room_plain c =
-    by_three (λ (f : Bool) (n : ℕ) (t : Timer). first_no room.Refuse (no (not f) Unfit ∷ no (not c.battery) NoBattery ∷ [])
-    (room.Bytes (n + battery_size t))) c
+    by_three (λ (f : Bool) (n : ℕ) (t : Option Clock). first_no Err (no (not f) Unfit ∷ no (not c.battery) NoBattery ∷ [])
+    (Ok (n + battery_size t))) c
 
 pub save_plain : (c : Cartridge) (ram : List ℕ) (room wall : ℕ) → save.save_of (plain c) ram room wall ≡ save.save_of c ram room wall
 unfolding save.save_of save.save_noes admit_noes save.bytes_of plain
 save_plain c ram room wall =
-    by_three (λ (f : Bool) (n : ℕ) (t : Timer). first_no saved.Refuse
+    by_three (λ (f : Bool) (n : ℕ) (t : Option Clock). first_no Err
     (no (not f) Unfit
     ∷ no (not (eqb (length ram) n)) WrongLength
     ∷ no (not c.battery) NoBattery
     ∷ no (ltb room (length (ram ++ battery_bytes t wall))) ShortRoom
-    ∷ []) (saved.Wrote (length (ram ++ battery_bytes t wall)))) c
+    ∷ []) (Ok (length (ram ++ battery_bytes t wall)))) c
 
 pub room_after_plain : (c : Cartridge) (ram room : List ℕ) (wall : ℕ) → save.room_after (plain c) ram room wall ≡ save.room_after c ram room wall
 unfolding save.room_after save.bytes_of plain
 room_after_plain c ram room wall =
     ap (save.room_by (ram ++ battery_bytes (clock_in (plain c).mapper) wall) room) (save_plain c ram (length room) wall)
-    ∙ ap (λ (t : Timer). save.room_by (ram ++ battery_bytes t wall) room (save.save_of c ram (length room) wall)) (clock_plain c.mapper)
+    ∙ ap (λ (t : Option Clock). save.room_by (ram ++ battery_bytes t wall) room (save.save_of c ram (length room) wall)) (clock_plain c.mapper)
 
 -- ---- in
 
 -- two answers that a player cannot tell apart
-pub record SameLoad (x y : Loaded) : Type 0 where
+pub record SameLoad (x y : Result (Option Cartridge) SaveRefusal) : Type 0 where
   pub number : loaded_number x ≡ loaded_number y
   pub state : (s : List ℕ) → loaded_state s x ≡ loaded_state s y
   pub clock : (k : ℕ) → loaded_clock k x ≡ loaded_clock k y
   pub area : (ram bytes : List ℕ) → load.area_by ram bytes x ≡ load.area_by ram bytes y
 
-same_load : {x : Loaded} → SameLoad x x
+same_load : {x : Result (Option Cartridge) SaveRefusal} → SameLoad x x
 same_load = record { number = refl; state = λ s. refl; clock = λ k. refl; area = λ r b. refl }
 
-same_whole : {d e : Cartridge} → encode_of d ≡ encode_of e → SameLoad (loaded.Whole d) (loaded.Whole e)
+same_whole : {d e : Cartridge} → encode_of d ≡ encode_of e → SameLoad (Ok (Some d)) (Ok (Some e))
 same_whole p = record { number = refl; state = λ s. p; clock = λ k. refl; area = λ r b. refl }
 
-same_pick : (t : Bool) {a b x y : Loaded} → SameLoad a x → SameLoad b y → SameLoad (pick t a b) (pick t x y)
+same_pick : (t : Bool) {a b x y : Result (Option Cartridge) SaveRefusal} → SameLoad a x → SameLoad b y → SameLoad (pick t a b) (pick t x y)
 same_pick true p q = p
 same_pick false p q = q
 
-same_first : (ts : List (No SaveRefusal)) {x y : Loaded} → SameLoad x y
-    → SameLoad (first_no loaded.Refuse ts x) (first_no loaded.Refuse ts y)
+same_first : (ts : List (No SaveRefusal)) {x y : Result (Option Cartridge) SaveRefusal} → SameLoad x y
+    → SameLoad (first_no Err ts x) (first_no Err ts y)
 same_first [] h = h
 same_first (t ∷ ts) h = same_pick t.holds same_load (same_first ts h)
 
-same_told : {x y z : Loaded} → x ≡ y → SameLoad y z → SameLoad x z
+same_told : {x y z : Result (Option Cartridge) SaveRefusal} → x ≡ y → SameLoad y z → SameLoad x z
 same_told {z = z} e h =
     record {
       number = ap loaded_number e ∙ h.number;
@@ -120,15 +116,15 @@ pub load_plain : (c : Cartridge) (area : ℕ) (bytes : List ℕ) (wall : ℕ)
 unfolding load.load_of load.load_noes admit_noes load.accepted_of plain
 load_plain c area bytes wall =
     let behind = drop area bytes in
-    let block : Timer → Bool = λ t. both (has_clock t) (leb block_size (length behind)) in
-    let tests : Bool → ℕ → Timer → List (No SaveRefusal) = λ f n t.
+    let block : Option Clock → Bool = λ t. both (has_clock t) (leb block_size (length behind)) in
+    let tests : Bool → ℕ → Option Clock → List (No SaveRefusal) = λ f n t.
     no (not f) Unfit
     ∷ no (not (eqb area n)) WrongLength
     ∷ no (not c.battery) NoBattery
     ∷ no (ltb (length bytes) area) ShortSave
     ∷ load.only_where (block t) (in_words Block (block_noes (block_in behind) wall)) in
-    let woken : Mapper → Loaded = λ m. loaded.Whole (with_mapper c (with_clock m (woken_of (block_in behind) wall))) in
+    let woken : Mapper → (Result (Option Cartridge) SaveRefusal) = λ m. Ok (Some (with_mapper c (with_clock m (woken_of (block_in behind) wall)))) in
     same_told
-    (by_three (λ (f : Bool) (n : ℕ) (t : Timer). first_no loaded.Refuse (tests f n t) (pick (block t) (woken (plain_mapper c.mapper)) loaded.RamOnly)) c)
+    (by_three (λ (f : Bool) (n : ℕ) (t : Option Clock). first_no Err (tests f n t) (pick (block t) (woken (plain_mapper c.mapper)) (Ok None))) c)
     (same_first (tests (fit_cart c) (area_of c) (clock_in c.mapper))
     (same_pick (block (clock_in c.mapper)) (same_whole (same_bytes c _ _ (with_clock_plain c.mapper (woken_of (block_in behind) wall)))) same_load))

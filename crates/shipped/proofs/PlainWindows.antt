@@ -1,11 +1,11 @@
 -- A cartridge and its plain one have the same windows.
+use Rattle.std.specs.Prelude.{Some, None, Option}
 use mathlib.Core.Bool.{Bool, true, false}
 use mathlib.Core.Path.{◌≡◌, refl, ap, ◌∙◌}
 use Prim.Native.Nat.{ℕ}
 use Rattle.facts.specs.Choice.{pick}
 use Rattle.facts.proofs.ChoiceLaws.{pick_has}
 use Rattle.banking.specs.Banks.{rom_place}
-use Rattle.banking.specs.declared.RamAt.{RamAt}
 use Rattle.mbc3.specs.Registers as mbc3
 use Rattle.mbc3.specs.declared.Mbc3 as mbc3-state
 use Rattle.timer.specs.ClockWindow.{on_clock}
@@ -20,9 +20,8 @@ use Rattle.states.proofs.Back.{fit_plain}
 use Rattle.states.proofs.Unused as unused
 use Rattle.windows.specs.Windows.{window, unmapped, by_way, ram_at, rom_at, windows_from, windows_by, windows_of, ask_of}
 use Rattle.windows.specs.declared.RamWindow.{RamWindow}
-use Rattle.windows.specs.declared.Asked.TheVariants as asked
 
-way_plain : (b : Bool) (p : RamAt) (x y : mbc3-state.Mbc3) (size : ℕ) → on_clock x ≡ on_clock y
+way_plain : (b : Bool) (p : Option ℕ) (x y : mbc3-state.Mbc3) (size : ℕ) → on_clock x ≡ on_clock y
     → by_way (pick b (Bytes p) (Timer x)) size ≡ by_way (pick b (Bytes p) (Timer y)) size
 way_plain true p x y size e = refl
 way_plain false p x y size e = ap (λ (t : Bool). pick t (window 0 0 3) unmapped) e
@@ -50,5 +49,5 @@ windows_plain c =
 pub ask_plain : (c : Cartridge) → ask_of (plain c) ≡ ask_of c
 unfolding ask_of
 ask_plain c =
-    ap (λ (b : Bool). pick b (asked.To (windows_of (plain c))) asked.Unfit) (fit_plain c)
-    ∙ ap (λ w. pick (fit_cart c) (asked.To w) asked.Unfit) (windows_plain c)
+    ap (λ (b : Bool). pick b (Some (windows_of (plain c))) None) (fit_plain c)
+    ∙ ap (λ w. pick (fit_cart c) (Some w) None) (windows_plain c)

@@ -1,4 +1,5 @@
 -- What ships: the exported calls over a state's bytes are the run of the cartridge that the bytes stand for.
+use Rattle.std.specs.Prelude.{Ok, Err, Some, Result}
 use mathlib.Core.List.{List, [], ◌∷◌}
 use mathlib.Core.Path.{◌≡◌, refl, sym, ap, ◌∙◌, subst}
 use Prim.Native.Nat.{ℕ, ◌<◌, ◌^◌}
@@ -11,11 +12,9 @@ use Rattle.mapper.specs.declared.Mapper.{Mapper}
 use Rattle.cartridge.specs.Fit.{InTime}
 use Rattle.cartridge.specs.declared.Cartridge.{Cartridge}
 use Rattle.mount.specs.Mount as mount
-use Rattle.mount.specs.declared.Mounted.{Mounted}
-use Rattle.mount.specs.declared.Mounted.TheVariants as mounted
+use Rattle.mount.specs.declared.MountRefusal.{MountRefusal}
 use Rattle.bus.specs.Run.{Access, Machine, step_of, run_of}
 use Rattle.states.specs.Reading.{decode_of, mapper_at}
-use Rattle.states.specs.declared.Decoded.TheVariants.{To}
 use Rattle.states.proofs.Laws.{every_kind}
 use Rattle.player.specs.Bus.{mount_number, mount_state, mount_of, state_mounted}
 use Rattle.runs.specs.Calls.{Octets, Octet}
@@ -61,7 +60,7 @@ run_sound image m h accesses o =
 in_time_at : (s : List ℕ) → bytes.Octets s → (k : ℕ) → InTime (mapper_at s k)
 in_time_at s o = every_kind s (λ (k : ℕ) (m : Mapper). InTime m) tt tt tt tt (λ e. omega arith) (λ _. field_lt 8 s 32 o) tt (λ k. tt)
 
-pub decoded_in_time : (s : List ℕ) (c : Cartridge) → bytes.Octets s → decode_of s ≡ To c → InTime c.mapper
+pub decoded_in_time : (s : List ℕ) (c : Cartridge) → bytes.Octets s → decode_of s ≡ Some c → InTime c.mapper
 decoded_in_time s c o = decoded_has s c (λ (x : Cartridge). InTime x.mapper) (in_time_at s o (bytes.field_at 1 s 0))
 
 -- and so has what `imf_mount` leaves where it answers 0.
@@ -69,7 +68,7 @@ started_in_time : (d : Facts) (n wall : ℕ) → wall < 2 ^ 64 → InTime (mount
 unfolding mount.cart_of
 started_in_time d n wall h = timing.start_in_time d.kind d.multicart wall h
 
-pub mount_sound : (image ram : List ℕ) (wall : ℕ) (c : Cartridge) → wall < 2 ^ 64 → mount.mount_of image ram wall ≡ mounted.To c
+pub mount_sound : (image ram : List ℕ) (wall : ℕ) (c : Cartridge) → wall < 2 ^ 64 → mount.mount_of image ram wall ≡ Ok c
     → Sound (record { cart = c; area = mount.area_after image ram wall })
 mount_sound image ram wall c h e =
     let t = laws.mount_taken image ram wall c e in
@@ -82,12 +81,12 @@ pub mount_ships : (s image ram : List ℕ) (wall : ℕ) → wall < 2 ^ 64 → mo
 unfolding mount_of state_mounted
 mount_ships s image ram wall h e = go (mount.mount_of image ram wall) refl e
   where
-    go : (a : Mounted) → mount.mount_of image ram wall ≡ a → mount_number a ≡ 0 → Mounts s image ram wall
-    go (mounted.To c) p q =
+    go : (a : Result Cartridge MountRefusal) → mount.mount_of image ram wall ≡ a → mount_number a ≡ 0 → Mounts s image ram wall
+    go (Ok c) p q =
         record {
           cart = c;
           mounted = p;
-          left = ap (λ (x : Mounted). kept (mount_state s x) (mount.area_after image ram wall)) p;
+          left = ap (λ (x : Result Cartridge MountRefusal). kept (mount_state s x) (mount.area_after image ram wall)) p;
           sound = mount_sound image ram wall c h p;
         }
-    go (mounted.Refuse w) p q = absurd (omega (arith, q, mount_some w))
+    go (Err w) p q = absurd (omega (arith, q, mount_some w))

@@ -1,4 +1,5 @@
 -- What ships, through windows: each access that was made is the bus's access on the cartridge.
+use Rattle.std.specs.Prelude.{Ok, Err, Some, None, Result, Option}
 use mathlib.Core.Bool.{Bool, true, false}
 use mathlib.Core.List.{List, [], ◌∷◌}
 use mathlib.Core.Logic.{◌⊎◌, inl, inr}
@@ -16,32 +17,22 @@ use Rattle.cartridge.specs.declared.Cartridge.{Cartridge}
 use Rattle.access.specs.Verdict.{in_ram, noes, verdict_of}
 use Rattle.access.specs.declared.BusRefusal.{BusRefusal}
 use Rattle.access.specs.declared.BusRefusal.TheVariants.{BadAddress}
-use Rattle.access.specs.declared.Verdict.{Verdict}
-use Rattle.access.specs.declared.Verdict.TheVariants as verdict
 use Rattle.access.proofs.Laws.{above_rom, below_ram, above_ram}
+use Rattle.access.specs.declared.Target.{Target}
+use Rattle.access.specs.declared.Target.TheVariants.{Rom, Ram}
 use Rattle.bus.specs.Bus as bus
 use Rattle.bus.specs.Advance as advance
 use Rattle.bus.specs.Run.{Access, Machine, after_write, after_clocks, step_of, Ready}
 use Rattle.bus.specs.Run as run
-use Rattle.bus.specs.declared.ReadAnswer.{ReadAnswer}
-use Rattle.bus.specs.declared.ReadAnswer.TheVariants as read
-use Rattle.bus.specs.declared.WriteAnswer.{WriteAnswer}
-use Rattle.bus.specs.declared.WriteAnswer.TheVariants as write
-use Rattle.bus.specs.declared.Advanced.{Advanced}
-use Rattle.bus.specs.declared.Advanced.TheVariants as advanced
 use Rattle.states.specs.Layout.{encode_of}
 use Rattle.states.specs.OnState.{on_state}
 use Rattle.windows.specs.Windows.{windows_of, ask_of, asks_of}
 use Rattle.windows.specs.Through.{place_in, from_read, put_by, put_of, area_by, area_after}
 use Rattle.windows.specs.declared.Windows.{Windows}
-use Rattle.windows.specs.declared.Asked.{Asked}
-use Rattle.windows.specs.declared.Asked.TheVariants as asked
-use Rattle.windows.specs.declared.Seen.{Seen}
-use Rattle.windows.specs.declared.Seen.TheVariants as seen_by
-use Rattle.windows.specs.declared.Put.{Put}
-use Rattle.windows.specs.declared.Put.TheVariants as put
 use Rattle.windows.proofs.Laws.{put_low, put_ram, put_outside}
 use Rattle.windows.proofs.Same.{window_read_lem, only_15, window_write_lem, unasked_write_keeps, outside_is_refused, windows_stay_in_ram_write, windows_stay_in_advance}
+use Rattle.windows.specs.declared.Miss.{Miss}
+use Rattle.windows.specs.declared.Miss.TheVariants.{Ask}
 use Rattle.player.specs.Bus.{read_number, read_of}
 use Rattle.player.specs.Windows.{numbers_of, asked_windows, seen_number, put_number, ask, windows_after, window_read, window_write, area_through}
 use Rattle.player.proofs.imf_window_read.Reads as imf-window-read
@@ -60,14 +51,15 @@ use Rattle.shipped.proofs.PlainWindows.{ask_plain}
 use Rattle.shipped.proofs.StepLaws.{decoded, step_ships, step_sound}
 use Rattle.shipped.proofs.PartLaws.{out_same, kept_same, passed_same}
 use Rattle.shipped.proofs.Made.{of_one, of_two, made_is}
+use Rattle.clock.specs.declared.AdvanceRefusal.{AdvanceRefusal}
 
 -- `imf_windows` on the bytes of a sound cartridge gives its windows.
 pub windows_are : (m : Machine) → Sound m → (n : List ℕ) → windows_after (encode_of m.cart) n ≡ numbers_of (windows_of m.cart)
 unfolding windows_after ask_of
 windows_are m h n =
     ap (on_state (λ k. asked_windows n (ask_of k)) n) (decoded m h)
-    ∙ ap (λ (x : Asked). asked_windows n x) (ask_plain m.cart)
-    ∙ ap (λ (b : Bool). asked_windows n (pick b (asked.To (windows_of m.cart)) asked.Unfit)) h.fit
+    ∙ ap (λ (x : Option Windows). asked_windows n x) (ask_plain m.cart)
+    ∙ ap (λ (b : Bool). asked_windows n (pick b (Some (windows_of m.cart)) None)) h.fit
 
 -- Kept where they stay or asked for anew, they are those of what is left.
 pub renewed_are : {stays : Type 0} {s w v : List ℕ} (m : Machine) → Sound m → s ≡ encode_of m.cart
@@ -98,20 +90,20 @@ unasked : (b : Bool) (n r : ℕ) → n ≡ pick b 0x200 r → eqb n 0x200 ≡ fa
 unasked true n r e f = false≢true (sym f ∙ ap (λ (k : ℕ). eqb k 0x200) e)
 unasked false n r e f = e
 
-pub number_same : (a : ReadAnswer) → ((w : BusRefusal) → a ≡ read.Refuse w → w ≡ BadAddress) → seen_number (from_read a) ≡ read_number a
-number_same (read.Byte b) h = refl
-number_same (read.Refuse w) h = ap (λ (x : BusRefusal). read_number (read.Refuse x)) (sym (h w refl))
+pub number_same : (a : Result ℕ BusRefusal) → ((w : BusRefusal) → a ≡ Err w → w ≡ BadAddress) → seen_number (from_read a) ≡ read_number a
+number_same (Ok b) h = refl
+number_same (Err w) h = ap (λ (x : BusRefusal). read_number (Err x)) (sym (h w refl))
 
-pub asked_or : (b : Bool) (x : Seen) → seen_number (pick b seen_by.Ask x) ≡ pick b 0x200 (seen_number x)
+pub asked_or : (b : Bool) (x : Result ℕ Miss) → seen_number (pick b (Err Ask) x) ≡ pick b 0x200 (seen_number x)
 asked_or true x = refl
 asked_or false x = refl
 
 -- a write that is asked for has stored nothing
-ask_stores_none : (w : Windows) (ram : List ℕ) (addr byte : ℕ) → put_by w ≡ put.Ask → area_by w ram addr byte ≡ ram
+ask_stores_none : (w : Windows) (ram : List ℕ) (addr byte : ℕ) → put_by w ≡ Err Ask → area_by w ram addr byte ≡ ram
 unfolding put_by area_by
 ask_stores_none w ram addr byte = go w.how
   where
-    go : (k : ℕ) → get_or (put.Done ∷ put.Done ∷ put.Done ∷ []) k put.Ask ≡ put.Ask
+    go : (k : ℕ) → get_or {A = Result (Unit {0}) Miss} (Ok tt ∷ Ok tt ∷ Ok tt ∷ []) k (Err Ask) ≡ Err Ask
         → get_or (ram ∷ set ram (place_in w addr) byte ∷ set ram (place_in w addr) (byte % 16) ∷ []) k ram ≡ ram
     go zero e = refl
     go (suc zero) e = let z : ◌≡◌ {A = ℕ} 0 1 = cc in absurd (omega arith)
@@ -119,8 +111,8 @@ ask_stores_none w ram addr byte = go w.how
     go (suc (suc (suc k))) e = refl
 
 -- what holds of every refusal and of an accepted verdict holds of the first
-first_has : (P : Verdict → Type 0) (v : Verdict) → ((w : BusRefusal) → P (verdict.Refuse w)) → P v → (ts : List (No BusRefusal))
-    → P (first_no verdict.Refuse ts v)
+first_has : (P : Result Target BusRefusal → Type 0) (v : Result Target BusRefusal) → ((w : BusRefusal) → P (Err w)) → P v → (ts : List (No BusRefusal))
+    → P (first_no Err ts v)
 first_has P v p q [] = q
 first_has P v p q (t ∷ ts) = pick_has P t.holds (p t.why) (first_has P v p q ts)
 
@@ -163,18 +155,18 @@ module _ (image : List ℕ) (m : Machine) (h : Sound m) (r : Ready image m) wher
   unfolding bus.write_of bus.write_verdict verdict_of
   write_windows addr byte g =
       let tests = noes cart (bus.lent_area cart (length area)) addr (mapper.bad_selection cart.mapper addr byte) in
-      subst (λ (b : Bool). Stays (first_no verdict.Refuse tests (pick b verdict.Rom verdict.Ram))) (sym (above_rom addr g))
-      (first_has Stays verdict.Ram (λ w. refl) (windows_stay_in_ram_write cart addr byte) tests)
+      subst (λ (b : Bool). Stays (first_no Err tests (pick b (Ok Rom) (Ok Ram)))) (sym (above_rom addr g))
+      (first_has Stays (Ok Ram) (λ w. refl) (windows_stay_in_ram_write cart addr byte) tests)
     where
-      Stays : Verdict → Type 0
+      Stays : Result Target BusRefusal → Type 0
       Stays v = windows_of (after_write m (bus.write_by cart addr byte v) (bus.area_after cart area addr byte)).left.cart ≡ windows_of cart
 
   clock_windows : (n : ℕ) → windows_of (step_of image m (run.clocks n)).left.cart ≡ windows_of cart
   clock_windows n = go (advance.advance_of cart n) refl
     where
-      go : (x : Advanced) → advance.advance_of cart n ≡ x → windows_of (after_clocks m x).left.cart ≡ windows_of cart
-      go (advanced.To d) e = ap windows_of (laws.advance_taken cart d n e).is ∙ windows_stay_in_advance cart n
-      go (advanced.Refuse why) e = refl
+      go : (x : Result Cartridge AdvanceRefusal) → advance.advance_of cart n ≡ x → windows_of (after_clocks m x).left.cart ≡ windows_of cart
+      go (Ok d) e = ap windows_of (laws.advance_taken cart d n e).is ∙ windows_stay_in_advance cart n
+      go (Err why) e = refl
 
   refused_windows : (addr byte : ℕ) → (number_of (run.writes addr byte) (step_of image m (run.writes addr byte)).answer ≡ 0 → ⊥)
       → windows_of (step_of image m (run.writes addr byte)).left.cart ≡ windows_of cart
@@ -183,10 +175,10 @@ module _ (image : List ℕ) (m : Machine) (h : Sound m) (r : Ready image m) wher
       after : List ℕ
       after = bus.area_after cart area addr byte
 
-      go : (x : WriteAnswer) → (number_of (run.writes addr byte) (after_write m x after).answer ≡ 0 → ⊥)
+      go : (x : Result Cartridge BusRefusal) → (number_of (run.writes addr byte) (after_write m x after).answer ≡ 0 → ⊥)
           → windows_of (after_write m x after).left.cart ≡ windows_of cart
-      go (write.Done d) n = absurd (n refl)
-      go (write.Refuse why) n = refl
+      go (Ok d) n = absurd (n refl)
+      go (Err why) n = refl
 
   pub access_stays : (a : Access) → StaysIn a (number_of a (step_of image m a).answer) → windows_of (step_of image m a).left.cart ≡ windows_of cart
   access_stays (run.reads addr) s = read_windows addr
@@ -210,9 +202,9 @@ module _ (image : List ℕ) (m : Machine) (h : Sound m) (r : Ready image m) wher
     abbrev answered_of : run.Left → Out ℕ Kept
     answered_of x = out (number_of a x.answer) (kept_of x.left)
 
-    answered : {x : WriteAnswer} → bus.write_of cart area addr byte ≡ x
+    answered : {x : Result Cartridge BusRefusal} → bus.write_of cart area addr byte ≡ x
         → call_of image (kept_of m) a ≡ answered_of (after_write m x (bus.area_after cart area addr byte))
-    answered e = step_ships image m h a ∙ ap (λ (x : WriteAnswer). answered_of (after_write m x (bus.area_after cart area addr byte))) e
+    answered e = step_ships image m h a ∙ ap (λ (x : Result Cartridge BusRefusal). answered_of (after_write m x (bus.area_after cart area addr byte))) e
 
     puts_low : addr < 0x8000 → Asks
     unfolding window_write area_through
@@ -222,19 +214,19 @@ module _ (image : List ℕ) (m : Machine) (h : Sound m) (r : Ready image m) wher
     unfolding window_write area_through
     puts_ram g l = go (asks_of cart) refl
       where
-        same_put : (put_of (windows_of cart) addr ≡ pick (asks_of cart) put.Ask put.Done)
+        same_put : (put_of (windows_of cart) addr ≡ pick (asks_of cart) (Err Ask) (Ok tt))
             × (area_after (windows_of cart) area addr byte ≡ bus.area_after cart area addr byte)
         same_put = window_write_lem cart area addr byte r.fit r.area g l
 
         go : (b : Bool) → asks_of cart ≡ b → Asks ⊎ Answers
         go true e =
-            let asks = same_put.0 ∙ ap (λ (b : Bool). pick b put.Ask put.Done) e in
+            let asks = same_put.0 ∙ ap (λ (b : Bool). pick b (Err Ask) (Ok tt)) e in
             let p = put_ram (windows_of cart) area addr byte g l in
             inl (ap put_number asks, sym p.1 ∙ ask_stores_none (windows_of cart) area addr byte (p.0 ∙ asks))
         go false e =
-            let done = same_put.0 ∙ ap (λ (b : Bool). pick b put.Ask put.Done) e in
+            let done = same_put.0 ∙ ap (λ (b : Bool). pick b (Err Ask) (Ok tt)) e in
             inr (
-              ap (λ (x : Put). eqb (put_number x) 0x200) done,
+              ap (λ (x : Result (Unit {0}) Miss). eqb (put_number x) 0x200) done,
               (
                 out_same (ap put_number done) (kept_same refl same_put.1)
                     ∙ sym (answered (unasked_write_keeps cart area addr byte r.fit r.area g l e)),
@@ -246,7 +238,7 @@ module _ (image : List ℕ) (m : Machine) (h : Sound m) (r : Ready image m) wher
     unfolding window_write area_through
     puts_outside g i =
         let p = outside_is_refused cart area addr byte r.fit r.area g i in (
-          ap (λ (x : Put). eqb (put_number x) 0x200) p.0,
+          ap (λ (x : Result (Unit {0}) Miss). eqb (put_number x) 0x200) p.0,
           (
             out_same (ap put_number p.0)
                 (kept_same refl

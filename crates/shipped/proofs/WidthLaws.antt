@@ -1,4 +1,5 @@
 -- The numbers that are read from bytes of eight bits have the widths of their types, fit or not.
+use Rattle.std.specs.Prelude.{Some, None}
 use mathlib.Core.Bool.{Bool, true, false}
 use mathlib.Core.List.{List}
 use mathlib.Core.Path.{◌≡◌, subst}
@@ -13,15 +14,14 @@ use Rattle.cartridge.specs.declared.Cartridge.{Cartridge}
 use Rattle.state_fields.specs.ClockFields.{registers_in}
 use Rattle.states.specs.Reading.{decode_of, is_state, mapper_at, cart_at}
 use Rattle.states.specs.Widths.{RegisterWidths, MapperWidths, Widths}
-use Rattle.states.specs.declared.Decoded.TheVariants.{To, NoState}
 use Rattle.states.proofs.Laws.{every_kind}
 
 -- what holds of the cartridge read by its kind holds of the one that bytes are
-pub decoded_has : (s : List ℕ) (c : Cartridge) (P : Cartridge → Type 0) → P (cart_at s (field_at 1 s 0)) → decode_of s ≡ To c → P c
+pub decoded_has : (s : List ℕ) (c : Cartridge) (P : Cartridge → Type 0) → P (cart_at s (field_at 1 s 0)) → decode_of s ≡ Some c → P c
 unfolding decode_of
 decoded_has s c P h e = go (is_state s (field_at 1 s 0)) e
   where
-    go : (b : Bool) → pick b (To (cart_at s (field_at 1 s 0))) NoState ≡ To c → P c
+    go : (b : Bool) → pick b (Some (cart_at s (field_at 1 s 0))) None ≡ Some c → P c
     go true p =
         let q : cart_at s (field_at 1 s 0) ≡ c = cc in subst P q h
     go false p = let z : ◌≡◌ {A = ℕ} 0 1 = cc in absurd (omega arith)
@@ -56,7 +56,7 @@ mapper_widths_at s o =
     })
     (field_lt 2 s 4 o, ram) (λ k. tt)
 
-pub decoded_widths : (s : List ℕ) (c : Cartridge) → Octets s → decode_of s ≡ To c → Widths c
+pub decoded_widths : (s : List ℕ) (c : Cartridge) → Octets s → decode_of s ≡ Some c → Widths c
 decoded_widths s c o =
     decoded_has s c Widths
     (record {

@@ -1,17 +1,14 @@
 -- Any bytes as a player may keep them: those of a fit cartridge, or others, on which every call but a mounting answers 13.
-use Rattle.std.specs.Prelude.{List, [], ◌≡◌, ℕ}
+use Rattle.std.specs.Prelude.{List, [], ◌≡◌, ℕ, Ok, Err, Some, None, Result, Option}
 use Rattle.facts.specs.Choice.{pick}
 use Rattle.cartridge.specs.Fit.{fit_cart}
 use Rattle.cartridge.specs.declared.Cartridge.{Cartridge}
 use Rattle.mount.specs.Mount as mount
-use Rattle.mount.specs.declared.Mounted.{Mounted}
-use Rattle.mount.specs.declared.Mounted.TheVariants as mounted
+use Rattle.mount.specs.declared.MountRefusal.{MountRefusal}
 use Rattle.bus.specs.Run.{refused}
 use Rattle.states.specs.Layout.{encode_of}
 use Rattle.states.specs.Plain.{plain}
 use Rattle.states.specs.Reading.{decode_of}
-use Rattle.states.specs.declared.Decoded.{Decoded}
-use Rattle.states.specs.declared.Decoded.TheVariants.{To, NoState}
 use Rattle.player.specs.Bus.{mount_number, no_state}
 use Rattle.shipped.specs.Along.{Out, Outs, out, along}
 use Rattle.shipped.specs.Sequence.{Kept}
@@ -22,9 +19,9 @@ pub data Held : Type 0 where
   cart : Cartridge → Held
   others : List ℕ → Held
 
-abbrev pub held_by : List ℕ → Decoded → Held
-held_by s (To c) = pick (fit_cart c) (cart c) (others s)
-held_by s NoState = others s
+abbrev pub held_by : List ℕ → Option Cartridge → Held
+held_by s (Some c) = pick (fit_cart c) (cart c) (others s)
+held_by s None = others s
 
 -- with the RAM area
 pub record Lent : Type 0 where
@@ -39,9 +36,9 @@ lent_of k = lent (held_by k.state (decode_of k.state)) k.area
 
 -- ---- a call
 
-abbrev pub held_mounted : List ℕ → Mounted → Held
-held_mounted s (mounted.To c) = cart c
-held_mounted s (mounted.Refuse w) = others s
+abbrev pub held_mounted : List ℕ → Result Cartridge MountRefusal → Held
+held_mounted s (Ok c) = cart c
+held_mounted s (Err w) = others s
 
 -- on bytes that are no fit cartridge: 13, and what was lent stays, or a mounting
 abbrev pub on_others : List ℕ → List ℕ → List ℕ → Request → Out Reply Lent
@@ -69,7 +66,7 @@ on_lents image = along (on_lent image)
 -- they are read as that cartridge, but for what its mapper does not use, and where they were the library's own at first are its own now;
 -- or they are those bytes
 abbrev pub StandsFor : Type 0 → Held → List ℕ → Type 0
-StandsFor own (cart c) s = (decode_of s ≡ To (plain c)) × (own → s ≡ encode_of c)
+StandsFor own (cart c) s = (decode_of s ≡ Some (plain c)) × (own → s ≡ encode_of c)
 StandsFor own (others t) s = s ≡ t
 
 pub record Stands (own : Type 0) (l : Lent) (k : Kept) : Type 0 where
@@ -78,4 +75,4 @@ pub record Stands (own : Type 0) (l : Lent) (k : Kept) : Type 0 where
 
 -- bytes that are what the library writes of what they are read as
 abbrev pub Own : List ℕ → Type 0
-Own s = (c : Cartridge) → decode_of s ≡ To c → encode_of c ≡ s
+Own s = (c : Cartridge) → decode_of s ≡ Some c → encode_of c ≡ s

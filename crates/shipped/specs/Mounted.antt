@@ -1,12 +1,11 @@
 -- What an `imf_mount` that was made leaves, by its contract, and the game that it then is.
-use Rattle.std.specs.Prelude.{List, ◌≡◌, ℕ, eqb, length}
+use Rattle.std.specs.Prelude.{List, ◌≡◌, ℕ, eqb, length, Ok}
 use Rattle.facts.specs.Choice.{pick}
 use Rattle.bytes_le.specs.Little as bytes
 use Rattle.header.specs.declared.Facts.{Facts}
 use Rattle.cartridge.specs.Fit.{area_of}
 use Rattle.cartridge.specs.declared.Cartridge.{Cartridge}
 use Rattle.mount.specs.Mount as mount
-use Rattle.mount.specs.declared.Mounted.TheVariants as mounted
 use Rattle.bus.specs.Run.{Machine}
 use Rattle.player.specs.Bus.{state_mounted}
 use Rattle.player.proofs.imf_mount.Reads as imf-mount
@@ -22,7 +21,7 @@ kept_mounted s image ram wall = kept (state_mounted s image ram wall) (mount.are
 
 pub record Mounts (s image ram : List ℕ) (wall : ℕ) : Type 0 where
   pub cart : Cartridge
-  pub mounted : mount.mount_of image ram wall ≡ mounted.To cart
+  pub mounted : mount.mount_of image ram wall ≡ Ok cart
   pub left : kept_mounted s image ram wall ≡ kept_of (record { cart = cart; area = mount.area_after image ram wall })
   pub sound : Sound (record { cart = cart; area = mount.area_after image ram wall })
 

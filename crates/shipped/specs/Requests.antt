@@ -1,15 +1,14 @@
 -- The same with every call among them that is lent a state: `imf_save_size`, `imf_save_out`, `imf_save_in`, `imf_windows` and `imf_mount`, by
 -- the definitions that their contracts cite, and beside them what the calls below do with the cartridge.
-use Rattle.std.specs.Prelude.{List, [], ◌∷◌, ℕ, ◌<◌, ◌^◌, length}
+use Rattle.std.specs.Prelude.{List, [], ◌∷◌, ℕ, ◌<◌, ◌^◌, length, Ok, Err, Result}
 use Rattle.cartridge.specs.declared.Cartridge.{Cartridge}
 use Rattle.mount.specs.Mount as mount
-use Rattle.mount.specs.declared.Mounted.{Mounted}
-use Rattle.mount.specs.declared.Mounted.TheVariants as mounted
+use Rattle.mount.specs.declared.MountRefusal.{MountRefusal}
 use Rattle.save_file.specs.Save as save
 use Rattle.bus.specs.Run.{Access, Machine}
 use Rattle.windows.specs.Windows.{ask_of}
 use Rattle.player.specs.Bus.{mount_number, mount_of, state_mounted}
-use Rattle.player.specs.Save.{room_number, room_size, size_of, size_asked, saved_number, saved_size, save_of, room_saved, size_saved, loaded_number, loaded_clock, load_of, state_loaded, area_loaded, clock_loaded}
+use Rattle.player.specs.Save.{size_number, size_told, size_of, size_asked, save_of, room_saved, size_saved, loaded_number, loaded_clock, load_of, state_loaded, area_loaded, clock_loaded}
 use Rattle.player.specs.Windows.{asked_number, asked_windows, windows_number, windows_after}
 use Rattle.runs.specs.Calls as calls
 use Rattle.runs.specs.Game.{answer_to, loaded_machine}
@@ -63,16 +62,16 @@ requests_of image = along (request_of image)
 -- ---- over the cartridge
 
 -- a mounting that is refused leaves the cartridge that there was
-abbrev pub cart_mounted : Cartridge → Mounted → Cartridge
-cart_mounted c (mounted.To d) = d
-cart_mounted c (mounted.Refuse w) = c
+abbrev pub cart_mounted : Cartridge → Result Cartridge MountRefusal → Cartridge
+cart_mounted c (Ok d) = d
+cart_mounted c (Err w) = c
 
 abbrev pub serve_of : List ℕ → Machine → Request → Out Reply Machine
 serve_of image m (bus a) = bare (numbered image m a)
-serve_of image m (asks size) = let r = save.room_for m.cart in out (reply (room_number r) [] (room_size size r)) m
+serve_of image m (asks size) = let r = save.room_for m.cart in out (reply (size_number r) [] (size_told size r)) m
 serve_of image m (saves room wall size) =
     let r = save.save_of m.cart m.area (length room) wall in
-    out (reply (saved_number r) (save.room_after m.cart m.area room wall) (saved_size size r)) m
+    out (reply (size_number r) (save.room_after m.cart m.area room wall) (size_told size r)) m
 serve_of image m (loads bytes wall clock) =
     let r = answer_to m bytes wall in out (reply (loaded_number r) [] (loaded_clock clock r)) (loaded_machine m bytes wall)
 serve_of image m (looks words) = let r = ask_of m.cart in out (reply (asked_number r) (asked_windows words r) 0) m

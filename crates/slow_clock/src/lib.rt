@@ -65,48 +65,25 @@ fn tick(c: Clock) -> Clock {
 
 pub fn ticks(start: Clock, n: u64) -> Clock {
     let mut c = start;
-    let mut i: u64 = 0;
-    while i < n {
+    for _ in 0..n {
         c = tick(c);
-        i += 1;
     }
     c
 }
 
 pub fn seconds(start: Clock, n: u64) -> Clock {
     let mut c = start;
-    let mut i: u64 = 0;
-    while i < n {
+    for _ in 0..n {
         c = whole(c);
-        i += 1;
     }
     c
 }
 
 fn same_registers(a: Registers, b: Registers) -> bool {
-    if a.second != b.second {
-        return false;
-    }
-    if a.minute != b.minute {
-        return false;
-    }
-    if a.hour != b.hour {
-        return false;
-    }
-    if a.day != b.day {
-        return false;
-    }
-    a.carry as u8 == b.carry as u8
+    (a.second, a.minute, a.hour, a.day, a.carry) == (b.second, b.minute, b.hour, b.day, b.carry)
 }
 
+// Halt, latch and freeze are not looked at: no clock that passes changes them.
 pub fn same(a: Clock, b: Clock) -> bool {
-    if a.sub != b.sub {
-        return false;
-    }
-    if a.time != b.time {
-        return false;
-    }
-    let r = a.running;
-    let q = b.running;
-    same_registers(r, q)
+    (a.sub, a.time) == (b.sub, b.time) && same_registers(a.running, b.running)
 }

@@ -9,6 +9,7 @@ ghost use Rattle.state_fields.specs.Fields.{stored, flag_at, is_flag, are_flags}
 ghost use Rattle.state_fields.specs.ClockFields.{clock_registers, clock, register_flags, clock_flags, registers_in, clock_in};
 ghost use Rattle.state_fields.specs.Limits.{Part, span, within, mask_of};
 
+use bytes_le::Field;
 use clock::Clock;
 use clock_registers::Registers;
 use facts::both;
@@ -18,7 +19,7 @@ pub fn put_flag(s: &mut [u8], at: usize, flag: bool)
     requires { at + 1 ≤ length s.old }
     ensures { s.new ≡ put_at 1 s.old at (bit flag) }
 {
-    bytes_le::write_u8(s, at, flag as u8);
+    u8::write(s, at, flag as u8);
 }
 
 // Whether it is 1.
@@ -26,7 +27,7 @@ pub fn flag_at(s: &[u8], at: usize) -> bool
     requires { at + 1 ≤ length s.now }
     ensures { result ≡ flag_at s.now at }
 {
-    bytes_le::read_u8(s, at) == 1
+    u8::read(s, at) == 1
 }
 
 // Whether the byte at a place is 0 or 1.
@@ -34,7 +35,7 @@ pub fn is_flag(s: &[u8], at: usize) -> bool
     requires { at + 1 ≤ length s.now }
     ensures { result ≡ is_flag s.now at }
 {
-    bytes_le::read_u8(s, at) <= 1
+    u8::read(s, at) <= 1
 }
 
 // The registers of a clock, seven bytes from a place on.
@@ -42,10 +43,10 @@ fn put_clock_registers(s: &mut [u8], at: usize, r: Registers)
     requires { at + 7 ≤ length s.old }
     ensures { s.new ≡ stored (clock_registers at r) s.old }
 {
-    bytes_le::write_u8(s, at, r.second);
-    bytes_le::write_u8(s, at + 1, r.minute);
-    bytes_le::write_u8(s, at + 2, r.hour);
-    bytes_le::write_u16(s, at + 3, r.day);
+    u8::write(s, at, r.second);
+    u8::write(s, at + 1, r.minute);
+    u8::write(s, at + 2, r.hour);
+    u16::write(s, at + 3, r.day);
     put_flag(s, at + 5, r.halt);
     put_flag(s, at + 6, r.carry);
 }
@@ -57,8 +58,8 @@ pub fn put_clock(s: &mut [u8], k: Clock)
 {
     let running = k.running;
     let frozen = k.frozen;
-    bytes_le::write_u64(s, 32, k.time);
-    bytes_le::write_u32(s, 40, k.sub);
+    u64::write(s, 32, k.time);
+    u32::write(s, 40, k.sub);
     put_flag(s, 44, k.latched);
     put_clock_registers(s, 45, running);
     put_clock_registers(s, 52, frozen);
@@ -69,10 +70,10 @@ fn clock_registers_in(s: &[u8], at: usize) -> Registers
     ensures { result ≡ registers_in s.now at }
 {
     Registers {
-        second: bytes_le::read_u8(s, at),
-        minute: bytes_le::read_u8(s, at + 1),
-        hour: bytes_le::read_u8(s, at + 2),
-        day: bytes_le::read_u16(s, at + 3),
+        second: u8::read(s, at),
+        minute: u8::read(s, at + 1),
+        hour: u8::read(s, at + 2),
+        day: u16::read(s, at + 3),
         halt: flag_at(s, at + 5),
         carry: flag_at(s, at + 6),
     }
@@ -87,8 +88,8 @@ pub fn clock_in(s: &[u8]) -> Clock
     let frozen = clock_registers_in(s, 52);
     Clock {
         running,
-        sub: bytes_le::read_u32(s, 40),
-        time: bytes_le::read_u64(s, 32),
+        sub: u32::read(s, 40),
+        time: u64::read(s, 32),
         latched: flag_at(s, 44),
         frozen,
     }
@@ -99,7 +100,7 @@ fn is_within(s: &[u8], at: usize, mask: u64) -> bool
     requires { at + 8 ≤ length s.now }
     ensures { (ps : List Part) → span ps ≡ 8 → mask_of ps ≡ mask → result ≡ within s.now at ps }
 {
-    bytes_le::read_u64(s, at) & mask == 0
+    u64::read(s, at) & mask == 0
 }
 
 // Whether halt and carry, the sixth of its bytes and the seventh, are 0 or 1.

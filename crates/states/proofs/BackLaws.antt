@@ -1,4 +1,5 @@
 -- The bytes of each kind of cartridge give it back, field by field.
+use Rattle.std.specs.Prelude.{Some, None}
 use mathlib.Core.Bool.{Bool, true, false}
 use mathlib.Core.List.{List, [], ◌∷◌}
 use mathlib.Core.Path.{◌≡◌, refl, ap, ◌∙◌}
@@ -28,7 +29,6 @@ use Rattle.states.specs.Layout.{kind_of, mbc3_fields, mapper, fields_of, encode_
 use Rattle.states.specs.Reading.{flags_of, mbc1_in, cart_in, mapper_at, cart_at, is_state, decode_of}
 use Rattle.states.specs.Plain.{plain}
 use Rattle.states.specs.Widths.{Widths}
-use Rattle.states.specs.declared.Decoded.TheVariants.{To, NoState}
 use Rattle.states.proofs.Laws.{mbc1_of_lem, mbc2_of_lem, mbc3_of_lem, mbc5_of_lem, cart_of_lem}
 
 -- ---- fields of a state
@@ -93,7 +93,7 @@ module _ (c : Cartridge) where
   unfolding encode_of
   battery_good = good (fields_of c) c.battery 1 (mapper_off c.mapper).1.0 refl
 
-  cart_back : Widths c → (m : Mapper) → To (cart_in (encode_of c) m) ≡ To (with_mapper c m)
+  cart_back : Widths c → (m : Mapper) → cart_in (encode_of c) m ≡ with_mapper c m
   unfolding encode_of
   cart_back w m =
       let o = (mapper_off c.mapper).1 in
@@ -104,24 +104,24 @@ module _ (c : Cartridge) where
   -- the answer by the kind
   module _ (w : Widths c) (k : ℕ) (m : Mapper) {n : Mapper} where
     back_to : kind_of c.mapper ≡ k → are_flags (encode_of c) (flags_of k) ≡ true
-        → pick (ltb k 7) (To (cart_at (encode_of c) k)) NoState ≡ To (cart_in (encode_of c) n)
+        → pick (ltb k 7) (Some (cart_at (encode_of c) k)) None ≡ Some (cart_in (encode_of c) n)
         → n ≡ m
-        → decode_of (encode_of c) ≡ To (with_mapper c m)
+        → decode_of (encode_of c) ≡ Some (with_mapper c m)
     unfolding decode_of
     back_to e f b p =
         let s = encode_of c in
         let kind = kind_back ∙ e in
-        ap (λ (x : ℕ). pick (is_state s x) (To (cart_at s x)) NoState) kind
-        ∙ ap (λ (g : Bool). pick (both g (ltb k 7)) (To (cart_at s k)) NoState) f
+        ap (λ (x : ℕ). pick (is_state s x) (Some (cart_at s x)) None) kind
+        ∙ ap (λ (g : Bool). pick (both g (ltb k 7)) (Some (cart_at s k)) None) f
         ∙ b
-        ∙ ap (λ (x : Mapper). To (cart_in s x)) p
-        ∙ cart_back w m
+        ∙ ap (λ (x : Mapper). Some (cart_in s x)) p
+        ∙ ap Some (cart_back w m)
 
 -- ---- each mapper
 
 -- the bytes of a cartridge within its widths give it back
 abbrev pub Back : Cartridge → Type 0
-Back c = Widths c → decode_of (encode_of c) ≡ To (plain c)
+Back c = Widths c → decode_of (encode_of c) ≡ Some (plain c)
 
 module _ (c : Cartridge) where
   none_back : (m : none-state.NoMapper) → Back (with_mapper c (NoMapper m))

@@ -1,4 +1,5 @@
 -- A mapper's fields stored, a cartridge read field by field, and the answer by its kind.
+use Rattle.std.specs.Prelude.{Some, None, Option}
 use mathlib.Core.Bool.{Bool, true, false}
 use mathlib.Core.List.{List, [], ◌∷◌}
 use mathlib.Core.Path.{◌≡◌, refl, sym, ap, ◌∙◌}
@@ -22,24 +23,16 @@ use Rattle.state_fields.specs.ClockFields.{clock}
 use Rattle.state_fields.proofs.Laws.{store_on, flags_one, flags_both}
 use Rattle.states.specs.Layout.{kind_of, board_of, registers, mbc3_fields, mapper, cart_from, encode_of}
 use Rattle.states.specs.Reading.{flag_lists, flags_of, mbc1_in, mbc2_in, mbc3_in, untimed_in, timed_in, mbc5_in, cleared, cart_in, mappers_in, mapper_at, cart_at, is_state, decode_of}
-use Rattle.states.specs.declared.Decoded.{Decoded}
-use Rattle.states.specs.declared.Decoded.TheVariants.{To, NoState}
+use Rattle.cartridge.specs.declared.Cartridge.{Cartridge}
 
 -- ---- writing
 
--- by the mapper that was told, and an MBC3 by its timer
-pub mapper_told : {m n : Mapper} (s : List ℕ) {r : List ℕ} → m ≡ n → r ≡ stored (mapper n) s → r ≡ stored (mapper m) s
-mapper_told s e p = p ∙ ap (λ (x : Mapper). stored (mapper x) s) (sym e)
-
+-- an MBC3 with a timer: its registers, then its clock
 pub timed_stored : (m : mbc3-state.Mbc3) (s : List ℕ) {r t : List ℕ} → m.timer ≡ true
     → r ≡ stored (registers m.enabled m.memory m.bank m.ram m.register) s → t ≡ stored (clock m.clock) r
     → t ≡ stored (mapper (Mbc3 m)) s
 unfolding stored
 timed_stored m s e p q = store_on (clock m.clock) p q ∙ ap (λ (b : Bool). stored (mbc3_fields m b) s) (sym e)
-
-pub untimed_stored : (m : mbc3-state.Mbc3) (s : List ℕ) {r : List ℕ} → m.timer ≡ false
-    → r ≡ stored (registers m.enabled m.memory m.bank m.ram 0) s → r ≡ stored (mapper (Mbc3 m)) s
-untimed_stored m s e p = p ∙ ap (λ (b : Bool). stored (mbc3_fields m b) s) (sym e)
 
 -- what was mounted, then the mapper
 pub encoded : (m : Mapper) (battery : Bool) (banks length size : ℕ) {k : ℕ} {r t : List ℕ} → k ≡ kind_of m
@@ -58,9 +51,6 @@ cleared_in s kind p q e f g = cc
 pub put_in : (s : List ℕ) (m : Mapper) {k : ℕ} {r t : List ℕ} → k ≡ kind_of m → r ≡ cleared s k → t ≡ stored (mapper m) r
     → t ≡ encode_of (cart_in s m)
 put_in s m = encoded m (flag_at s 1) (field_at 2 s 8) (field_at 8 s 16) (field_at 8 s 24)
-
-pub put_told : {m n : Mapper} (s : List ℕ) {r : List ℕ} → m ≡ n → r ≡ encode_of (cart_in s n) → r ≡ encode_of (cart_in s m)
-put_told s e p = p ∙ ap (λ (x : Mapper). encode_of (cart_in s x)) (sym e)
 
 -- ---- flags
 
@@ -113,23 +103,23 @@ of_kind f s e p q = q ∙ ap f p ∙ ap (λ (n : ℕ). f (mapper_at s n)) (sym e
 
 -- ---- the answer
 
-pub decoded_at : (s : List ℕ) {kind : ℕ} → kind ≡ field_at 1 s 0 → pick (is_state s kind) (To (cart_at s kind)) NoState ≡ decode_of s
+pub decoded_at : (s : List ℕ) {kind : ℕ} → kind ≡ field_at 1 s 0 → pick (is_state s kind) (Some (cart_at s kind)) None ≡ decode_of s
 unfolding decode_of
-decoded_at s p = ap (λ (k : ℕ). pick (is_state s k) (To (cart_at s k)) NoState) p
+decoded_at s p = ap (λ (k : ℕ). pick (is_state s k) (Some (cart_at s k)) None) p
 
-pub decoded : (s : List ℕ) {kind : ℕ} {f b : Bool} {r : Decoded} (u : Bool) → kind ≡ field_at 1 s 0 → f ≡ are_flags s (flags_of kind)
-    → b ≡ both f (ltb kind 7) → b ≡ u → r ≡ pick u (To (cart_at s kind)) NoState
+pub decoded : (s : List ℕ) {kind : ℕ} {f b : Bool} {r : Option Cartridge} (u : Bool) → kind ≡ field_at 1 s 0 → f ≡ are_flags s (flags_of kind)
+    → b ≡ both f (ltb kind 7) → b ≡ u → r ≡ pick u (Some (cart_at s kind)) None
     → r ≡ decode_of s
 decoded s {kind} u p q e g h =
     h
-    ∙ ap (λ (b : Bool). pick b (To (cart_at s kind)) NoState) (sym g ∙ e ∙ ap (λ (f : Bool). both f (ltb kind 7)) q)
+    ∙ ap (λ (b : Bool). pick b (Some (cart_at s kind)) None) (sym g ∙ e ∙ ap (λ (f : Bool). both f (ltb kind 7)) q)
     ∙ decoded_at s p
 
 -- ---- reading, field by field
 
 pub cart_of_lem : {l l' b b' s s' : ℕ} {t t' : Bool} (m : Mapper) → l ≡ l' → b ≡ b' → s ≡ s' → t ≡ t'
-    → To (record { length = l; banks = b; size = s; battery = t; mapper = m })
-    ≡ To (record { length = l'; banks = b'; size = s'; battery = t'; mapper = m })
+    → ◌≡◌ {A = Cartridge} (record { length = l; banks = b; size = s; battery = t; mapper = m })
+    (record { length = l'; banks = b'; size = s'; battery = t'; mapper = m })
 cart_of_lem m p q r e = cc
 
 pub mbc1_of_lem : {a b b' d d' : Bool} {x x' y y' : ℕ} → b ≡ b' → d ≡ d' → x ≡ x' → y ≡ y' → mbc1.mbc1 a b d x y ≡ mbc1.mbc1 a b' d' x' y'
@@ -148,8 +138,3 @@ mbc3_to s t p q r = p ∙ mbc3_of_lem refl refl refl refl q r
 
 pub mbc5_of_lem : {b b' : Bool} {x x' y y' : ℕ} → b ≡ b' → x ≡ x' → y ≡ y' → mbc5.mbc5 b x y ≡ mbc5.mbc5 b' x' y'
 mbc5_of_lem p q r = cc
-
--- ---- by the kind
-
-pub kind_told : {m n : Mapper} {k : ℕ} → m ≡ n → k ≡ kind_of n → k ≡ kind_of m
-kind_told e p = p ∙ ap kind_of (sym e)

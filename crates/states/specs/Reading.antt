@@ -1,5 +1,5 @@
 -- The cartridge that 64 bytes stand for: each field read where Layout has it.
-use Rattle.std.specs.Prelude.{Bool, true, false, List, [], ◌∷◌, ℕ, ltb, get_or, replicate}
+use Rattle.std.specs.Prelude.{Bool, true, false, List, [], ◌∷◌, ℕ, ltb, get_or, replicate, Some, None, Option}
 use Rattle.facts.specs.Choice.{pick, both}
 use Rattle.bytes_le.specs.Little.{field_at}
 use Rattle.state_fields.specs.Fields.{stored, flag_at, are_flags}
@@ -19,8 +19,6 @@ use Rattle.mapper.specs.declared.Mapper.{Mapper}
 use Rattle.mapper.specs.declared.Mapper.TheVariants.{NoMapper, Mbc1, Mbc2, Mbc3, Mbc5}
 use Rattle.cartridge.specs.declared.Cartridge.{Cartridge}
 use Rattle.states.specs.Layout.{board_of, cart_from}
-use Rattle.states.specs.declared.Decoded.{Decoded}
-use Rattle.states.specs.declared.Decoded.TheVariants.{To, NoState}
 
 -- Player 3: "a flag that the kind uses": where they stand, in the order of the kinds
 abbrev pub flag_lists : List (List ℕ)
@@ -87,5 +85,5 @@ cart_at s kind = cart_in s (mapper_at s kind)
 abbrev pub is_state : List ℕ → ℕ → Bool
 is_state s kind = both (are_flags s (flags_of kind)) (ltb kind 7)
 
-unfoldable pub decode_of : List ℕ → Decoded
-decode_of s = pick (is_state s (field_at 1 s 0)) (To (cart_at s (field_at 1 s 0))) NoState
+unfoldable pub decode_of : List ℕ → Option Cartridge
+decode_of s = pick (is_state s (field_at 1 s 0)) (Some (cart_at s (field_at 1 s 0))) None

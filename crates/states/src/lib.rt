@@ -3,14 +3,13 @@
 #![tactic(auto)]
 
 ghost use Rattle.std.specs.Prelude.{◌≡◌, ◌≤◌, length, replicate};
-ghost use Rattle.facts.specs.Choice.{pick};
-ghost use Rattle.no_mapper.specs.Registers as none;
+ghost use Rattle.mapper.specs.declared.Mapper.{Mapper};
 ghost use Rattle.mapper.specs.declared.Mapper.TheVariants as by;
 ghost use Rattle.state_fields.specs.Fields.{stored, are_flags};
-ghost use Rattle.states.specs.Layout.{board_of, registers, mapper, kind_of, encode_of};
+ghost use Rattle.states.specs.Layout.{board_of, registers, mapper as fields, kind_of, encode_of};
 ghost use Rattle.states.specs.Reading.{flags_of, mbc1_in, mbc2_in, mbc3_in, untimed_in, timed_in, mbc5_in, cleared, cart_in, mapper_at, decode_of};
-ghost use Rattle.states.specs.declared.Decoded.TheVariants.{To};
 
+use bytes_le::Field;
 use cartridge::Cartridge;
 use clock::Clock;
 use facts::both;
@@ -25,41 +24,16 @@ use state_fields::{are_clock_flags, clock_in, flag_at, is_flag, put_clock, put_f
 // Bytes of a state.
 pub const STATE_SIZE: usize = 64;
 
-#[derive(Drop)]
-pub enum Decoded {
-    To(Cartridge),
-    // An unknown kind, or a flag that is neither 0 nor 1.
-    NoState,
-}
+// A mapper as a state keeps it: its kind, and its registers at their places.
+pub trait Kept: Copy {
+    // The mapper that it is.
+    ghost mapper: { Self → Mapper };
 
-fn mbc1_kind(multicart: bool) -> u8
-    ensures { result ≡ pick multicart 2 1 }
-{
-    if multicart {
-        return 2;
-    }
-    1
-}
+    fn kind(self) -> u8
+        ensures { result ≡ kind_of (mapper self) };
 
-fn mbc3_kind(timer: bool) -> u8
-    ensures { result ≡ pick timer 5 4 }
-{
-    if timer {
-        return 5;
-    }
-    4
-}
-
-pub fn kind_of(m: Mapper) -> u8
-    ensures { result ≡ kind_of m }
-{
-    match m {
-        Mapper::NoMapper(_) => 0,
-        Mapper::Mbc1(mbc1) => mbc1_kind(mbc1.multicart),
-        Mapper::Mbc2(_) => 3,
-        Mapper::Mbc3(mbc3) => mbc3_kind(mbc3.timer),
-        Mapper::Mbc5(_) => 6,
-    }
+    fn put_fields(self, s: &mut [u8; 64])
+        ensures { s.new ≡ stored (fields (mapper self)) s.old };
 }
 
 // What was mounted, and zeroes else.
@@ -67,68 +41,122 @@ fn put_board(s: &mut [u8; 64], kind: u8, battery: bool, banks: u16, image: u64, 
     ensures { s.new ≡ stored (board_of kind battery banks image size) (replicate 64 0) }
 {
     *s = [0; 64];
-    bytes_le::write_u8(s, 0, kind);
+    u8::write(s, 0, kind);
     put_flag(s, 1, battery);
-    bytes_le::write_u16(s, 8, banks);
-    bytes_le::write_u64(s, 16, image);
-    bytes_le::write_u64(s, 24, size);
+    u16::write(s, 8, banks);
+    u64::write(s, 16, image);
+    u64::write(s, 24, size);
 }
 
-fn put_registers(s: &mut [u8], enabled: bool, mode: bool, bank: u16, ram: u8, register: u8)
-    requires { 64 ≤ length s.old }
+fn put_registers(s: &mut [u8; 64], enabled: bool, mode: bool, bank: u16, ram: u8, register: u8)
     ensures { s.new ≡ stored (registers enabled mode bank ram register) s.old }
 {
     put_flag(s, 2, enabled);
     put_flag(s, 3, mode);
-    bytes_le::write_u16(s, 4, bank);
-    bytes_le::write_u8(s, 6, ram);
-    bytes_le::write_u8(s, 7, register);
+    u16::write(s, 4, bank);
+    u8::write(s, 6, ram);
+    u8::write(s, 7, register);
 }
 
-fn fields_mbc1(s: &mut [u8], m: Mbc1)
-    requires { 64 ≤ length s.old }
-    ensures { s.new ≡ stored (mapper (by.Mbc1 m)) s.old }
-{
-    put_registers(s, m.enabled, m.mode, m.low as u16, m.two, 0);
-}
+impl Kept for NoMapper {
+    ghost mapper = { by.NoMapper };
 
-fn fields_mbc2(s: &mut [u8], m: Mbc2)
-    requires { 64 ≤ length s.old }
-    ensures { s.new ≡ stored (mapper (by.Mbc2 m)) s.old }
-{
-    put_registers(s, m.enabled, false, m.bank as u16, 0, 0);
-}
-
-fn fields_mbc3(s: &mut [u8], m: Mbc3)
-    requires { 64 ≤ length s.old }
-    ensures { s.new ≡ stored (mapper (by.Mbc3 m)) s.old }
-{
-    if m.timer {
-        let k = m.clock;
-        put_registers(s, m.enabled, m.memory, m.bank as u16, m.ram, m.register);
-        put_clock(s, k);
-        return;
+    fn kind(self) -> u8 {
+        0
     }
-    put_registers(s, m.enabled, m.memory, m.bank as u16, m.ram, 0);
+
+    // There is no register.
+    fn put_fields(self, s: &mut [u8; 64]) {}
 }
 
-fn fields_mbc5(s: &mut [u8], m: Mbc5)
-    requires { 64 ≤ length s.old }
-    ensures { s.new ≡ stored (mapper (by.Mbc5 m)) s.old }
-{
-    put_registers(s, m.enabled, false, m.bank, m.ram, 0);
+impl Kept for Mbc1 {
+    ghost mapper = { by.Mbc1 };
+
+    fn kind(self) -> u8 {
+        if self.multicart {
+            return 2;
+        }
+        1
+    }
+
+    fn put_fields(self, s: &mut [u8; 64]) {
+        put_registers(s, self.enabled, self.mode, self.low as u16, self.two, 0);
+    }
 }
 
-fn put_mapper(s: &mut [u8], m: Mapper)
-    requires { 64 ≤ length s.old }
-    ensures { s.new ≡ stored (mapper m) s.old }
-{
-    match m {
-        Mapper::NoMapper(_) => {}
-        Mapper::Mbc1(mbc1) => fields_mbc1(s, mbc1),
-        Mapper::Mbc2(mbc2) => fields_mbc2(s, mbc2),
-        Mapper::Mbc3(mbc3) => fields_mbc3(s, mbc3),
-        Mapper::Mbc5(mbc5) => fields_mbc5(s, mbc5),
+impl Kept for Mbc2 {
+    ghost mapper = { by.Mbc2 };
+
+    fn kind(self) -> u8 {
+        3
+    }
+
+    fn put_fields(self, s: &mut [u8; 64]) {
+        put_registers(s, self.enabled, false, self.bank as u16, 0, 0);
+    }
+}
+
+impl Kept for Mbc3 {
+    ghost mapper = { by.Mbc3 };
+
+    fn kind(self) -> u8 {
+        if self.timer {
+            return 5;
+        }
+        4
+    }
+
+    fn put_fields(self, s: &mut [u8; 64]) {
+        if self.timer {
+            put_registers(
+                s,
+                self.enabled,
+                self.memory,
+                self.bank as u16,
+                self.ram,
+                self.register,
+            );
+            put_clock(s, self.clock);
+            return;
+        }
+        put_registers(s, self.enabled, self.memory, self.bank as u16, self.ram, 0);
+    }
+}
+
+impl Kept for Mbc5 {
+    ghost mapper = { by.Mbc5 };
+
+    fn kind(self) -> u8 {
+        6
+    }
+
+    fn put_fields(self, s: &mut [u8; 64]) {
+        put_registers(s, self.enabled, false, self.bank, self.ram, 0);
+    }
+}
+
+// The one that is in it.
+impl Kept for Mapper {
+    ghost mapper = { λ m. m };
+
+    fn kind(self) -> u8 {
+        match self {
+            Mapper::NoMapper(none) => none.kind(),
+            Mapper::Mbc1(mbc1) => mbc1.kind(),
+            Mapper::Mbc2(mbc2) => mbc2.kind(),
+            Mapper::Mbc3(mbc3) => mbc3.kind(),
+            Mapper::Mbc5(mbc5) => mbc5.kind(),
+        }
+    }
+
+    fn put_fields(self, s: &mut [u8; 64]) {
+        match self {
+            Mapper::NoMapper(none) => none.put_fields(s),
+            Mapper::Mbc1(mbc1) => mbc1.put_fields(s),
+            Mapper::Mbc2(mbc2) => mbc2.put_fields(s),
+            Mapper::Mbc3(mbc3) => mbc3.put_fields(s),
+            Mapper::Mbc5(mbc5) => mbc5.put_fields(s),
+        }
     }
 }
 
@@ -139,13 +167,13 @@ pub fn encode(cart: Cartridge, s: &mut [u8; 64])
     let m = cart.mapper;
     put_board(
         s,
-        kind_of(m),
+        m.kind(),
         cart.battery,
         cart.banks,
         cart.length as u64,
         cart.size as u64,
     );
-    put_mapper(s, m);
+    m.put_fields(s);
 }
 
 // What was mounted stays where it is, and the rest is zero.
@@ -153,58 +181,18 @@ fn clear(s: &mut [u8; 64], kind: u8)
     ensures { s.new ≡ cleared s.old kind }
 {
     let battery = flag_at(s, 1);
-    let banks = bytes_le::read_u16(s, 8);
-    let image = bytes_le::read_u64(s, 16);
-    let size = bytes_le::read_u64(s, 24);
+    let banks = u16::read(s, 8);
+    let image = u64::read(s, 16);
+    let size = u64::read(s, 24);
     put_board(s, kind, battery, banks, image, size);
 }
 
-// Each kind of mapper written into a state; what was mounted stays.
-pub fn put_none(s: &mut [u8; 64])
-    ensures { s.new ≡ encode_of (cart_in s.old (by.NoMapper none.start)) }
+// A mapper written into a state; what was mounted stays.
+pub fn put<M: Kept>(s: &mut [u8; 64], m: M)
+    ensures { s.new ≡ encode_of (cart_in s.old (M.mapper m)) }
 {
-    clear(s, 0);
-}
-
-pub fn put_mbc1(s: &mut [u8; 64], m: Mbc1)
-    ensures { s.new ≡ encode_of (cart_in s.old (by.Mbc1 m)) }
-{
-    clear(s, mbc1_kind(m.multicart));
-    fields_mbc1(s, m);
-}
-
-pub fn put_mbc2(s: &mut [u8; 64], m: Mbc2)
-    ensures { s.new ≡ encode_of (cart_in s.old (by.Mbc2 m)) }
-{
-    clear(s, 3);
-    fields_mbc2(s, m);
-}
-
-pub fn put_mbc3(s: &mut [u8; 64], m: Mbc3)
-    ensures { s.new ≡ encode_of (cart_in s.old (by.Mbc3 m)) }
-{
-    clear(s, mbc3_kind(m.timer));
-    fields_mbc3(s, m);
-}
-
-pub fn put_mbc5(s: &mut [u8; 64], m: Mbc5)
-    ensures { s.new ≡ encode_of (cart_in s.old (by.Mbc5 m)) }
-{
-    clear(s, 6);
-    fields_mbc5(s, m);
-}
-
-// The same for a mapper of any kind.
-pub fn put(s: &mut [u8; 64], m: Mapper)
-    ensures { s.new ≡ encode_of (cart_in s.old m) }
-{
-    match m {
-        Mapper::NoMapper(_) => put_none(s),
-        Mapper::Mbc1(mbc1) => put_mbc1(s, mbc1),
-        Mapper::Mbc2(mbc2) => put_mbc2(s, mbc2),
-        Mapper::Mbc3(mbc3) => put_mbc3(s, mbc3),
-        Mapper::Mbc5(mbc5) => put_mbc5(s, mbc5),
-    }
+    clear(s, m.kind());
+    m.put_fields(s);
 }
 
 // Whether every flag that this kind of cartridge uses is one.
@@ -235,8 +223,8 @@ pub fn mbc1_in(s: &[u8], multicart: bool) -> Mbc1
         multicart,
         enabled: flag_at(s, 2),
         mode: flag_at(s, 3),
-        low: bytes_le::read_u8(s, 4),
-        two: bytes_le::read_u8(s, 6),
+        low: u8::read(s, 4),
+        two: u8::read(s, 6),
     }
 }
 
@@ -246,7 +234,7 @@ pub fn mbc2_in(s: &[u8]) -> Mbc2
 {
     Mbc2 {
         enabled: flag_at(s, 2),
-        bank: bytes_le::read_u8(s, 4),
+        bank: u8::read(s, 4),
     }
 }
 
@@ -258,9 +246,9 @@ fn mbc3_in(s: &[u8], timer: bool, register: u8, clock: Clock) -> Mbc3
     Mbc3 {
         timer,
         enabled: flag_at(s, 2),
-        bank: bytes_le::read_u8(s, 4),
+        bank: u8::read(s, 4),
         memory: flag_at(s, 3),
-        ram: bytes_le::read_u8(s, 6),
+        ram: u8::read(s, 6),
         register,
         clock,
     }
@@ -278,7 +266,7 @@ pub fn timed_in(s: &[u8]) -> Mbc3
     requires { 64 ≤ length s.now }
     ensures { result ≡ timed_in s.now }
 {
-    mbc3_in(s, true, bytes_le::read_u8(s, 7), clock_in(s))
+    mbc3_in(s, true, u8::read(s, 7), clock_in(s))
 }
 
 pub fn mbc5_in(s: &[u8]) -> Mbc5
@@ -287,22 +275,22 @@ pub fn mbc5_in(s: &[u8]) -> Mbc5
 {
     Mbc5 {
         enabled: flag_at(s, 2),
-        bank: bytes_le::read_u16(s, 4),
-        ram: bytes_le::read_u8(s, 6),
+        bank: u16::read(s, 4),
+        ram: u8::read(s, 6),
     }
 }
 
-fn cart_in(s: &[u8], mapper: Mapper) -> Decoded
+fn cart_in(s: &[u8], mapper: Mapper) -> Cartridge
     requires { 64 ≤ length s.now }
-    ensures { result ≡ To (cart_in s.now mapper) }
+    ensures { result ≡ cart_in s.now mapper }
 {
-    Decoded::To(Cartridge {
-        length: bytes_le::read_u64(s, 16) as usize,
-        banks: bytes_le::read_u16(s, 8),
-        size: bytes_le::read_u64(s, 24) as usize,
+    Cartridge {
+        length: u64::read(s, 16) as usize,
+        banks: u16::read(s, 8),
+        size: u64::read(s, 24) as usize,
         battery: flag_at(s, 1),
         mapper,
-    })
+    }
 }
 
 // The mapper alone, for a call that needs no more of the cartridge.
@@ -322,13 +310,14 @@ pub fn mapper_in(s: &[u8], kind: u8) -> Mapper
     }
 }
 
-// The cartridge that 64 bytes stand for. Whether it is fit is for the calls to ask.
-pub fn decode(s: &[u8; 64]) -> Decoded
+// The cartridge that 64 bytes stand for: none where the kind is unknown, or a flag is neither 0 nor 1. Whether it is fit is for the calls
+// to ask.
+pub fn decode(s: &[u8; 64]) -> Option<Cartridge>
     ensures { result ≡ decode_of s.now }
 {
-    let kind = bytes_le::read_u8(s, 0);
+    let kind = u8::read(s, 0);
     if both(are_flags(s, kind), kind < 7) {
-        return cart_in(s, mapper_in(s, kind));
+        return Some(cart_in(s, mapper_in(s, kind)));
     }
-    Decoded::NoState
+    None
 }

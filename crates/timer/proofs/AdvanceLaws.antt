@@ -1,4 +1,5 @@
 -- An advance by its tests: what the code tests of the registers, and the clock's own answer.
+use Rattle.std.specs.Prelude.{Ok, Err, Result}
 use mathlib.Core.Bool.{Bool, true, false, not}
 use mathlib.Core.List.{[], ◌∷◌}
 use mathlib.Core.Path.{◌≡◌, refl, sym, ap, ◌∙◌}
@@ -10,12 +11,10 @@ use Rattle.facts.proofs.RefusalLaws.{first_map}
 use Rattle.clock.specs.Fit.{fit_clock}
 use Rattle.clock.specs.Ticking as ticking
 use Rattle.clock.specs.declared.AdvanceRefusal.TheVariants.{Unfit, Late}
-use Rattle.clock.specs.declared.Advanced.TheVariants as clock
+use Rattle.clock.specs.declared.AdvanceRefusal.{AdvanceRefusal}
 use Rattle.mbc3.specs.Registers.{with_clock, fit_registers}
 use Rattle.timer.specs.Advance.{clocks_on, advance_of, from_clock}
 use Rattle.mbc3.specs.declared.Mbc3.{Mbc3}
-use Rattle.timer.specs.declared.Advanced.{Advanced}
-use Rattle.timer.specs.declared.Advanced.TheVariants.{To, Refuse}
 use Rattle.mbc3.proofs.Laws.{fit_tested}
 
 -- all but the clock
@@ -38,10 +37,10 @@ rest_and_clock m l =
 
 module _ (m : Mbc3) (n : ℕ) (l : m.bank < 256) where
   -- the answer by whether the registers are fit and whether there is a timer
-  abbrev by : Bool → Bool → Advanced
+  abbrev by : Bool → Bool → Result Mbc3 AdvanceRefusal
   by fit timer =
-      first_no Refuse (no (not fit) Unfit ∷ no (both timer (ticking.late m.clock n)) Late ∷ [])
-      (To (pick timer (with_clock m (ticking.ticks n m.clock)) m))
+      first_no Err (no (not fit) Unfit ∷ no (both timer (ticking.late m.clock n)) Late ∷ [])
+      (Ok (pick timer (with_clock m (ticking.ticks n m.clock)) m))
 
   split : {r t : Bool} → rest m ≡ r → m.timer ≡ t → by (both r (either (not t) (fit_clock m.clock))) t ≡ advance_of m n
   unfolding advance_of clocks_on
@@ -51,16 +50,16 @@ module _ (m : Mbc3) (n : ℕ) (l : m.bank < 256) where
       ∙ ap (λ (r : Bool). by (both r (either (not m.timer) (fit_clock m.clock))) m.timer) p
       ∙ ap (λ (t : Bool). by (both r (either (not t) (fit_clock m.clock))) t) q)
 
-  pub unfit_answer : rest m ≡ false → Refuse Unfit ≡ advance_of m n
+  pub unfit_answer : rest m ≡ false → Err Unfit ≡ advance_of m n
   unfit_answer p = split p refl
 
-  pub still_answer : rest m ≡ true → m.timer ≡ false → To m ≡ advance_of m n
+  pub still_answer : rest m ≡ true → m.timer ≡ false → Ok m ≡ advance_of m n
   still_answer p q = split p q
 
   pub timed_answer : rest m ≡ true → m.timer ≡ true → from_clock m (ticking.advance_of m.clock n) ≡ advance_of m n
   unfolding ticking.advance_of
   timed_answer p q =
-      first_map (from_clock m) clock.Refuse
+      first_map (from_clock m) Err
       (no (not (fit_clock m.clock)) Unfit ∷ no (ticking.late m.clock n) Late ∷ [])
-      (clock.To (ticking.ticks n m.clock))
+      (Ok (ticking.ticks n m.clock))
       ∙ split p q

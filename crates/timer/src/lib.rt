@@ -6,15 +6,9 @@ ghost use Rattle.timer.specs.ClockWindow.{on_clock, window_read, window_written}
 ghost use Rattle.timer.specs.Advance.{from_clock, advance_of};
 ghost use Rattle.clock.specs.Ticking as ticking;
 
-use clock::{AdvanceRefusal, Shown, Written};
+use clock::AdvanceRefusal;
 use facts::{both, either};
 use mbc3::Mbc3;
-
-#[derive(Drop)]
-pub enum Advanced {
-    To(Mbc3),
-    Refuse(AdvanceRefusal),
-}
 
 // Whether a clock register stands in the RAM window.
 pub fn on_clock(m: Mbc3) -> bool
@@ -29,10 +23,7 @@ pub fn read(m: Mbc3) -> u8
 {
     if on_clock(m) {
         let clock = m.clock;
-        return match clock.read(m.register) {
-            Shown::Byte(b) => b,
-            Shown::NoRegister => 0xFF,
-        };
+        return clock.read(m.register).unwrap_or(0xFF);
     }
     0xFF
 }
@@ -44,34 +35,31 @@ pub fn write(m: Mbc3, byte: u8) -> Mbc3
     if on_clock(m) {
         let clock = m.clock;
         return match clock.write(m.register, byte) {
-            Written::To(next) => Mbc3 { clock: next, ..m },
-            Written::NoRegister => m,
+            Some(next) => Mbc3 { clock: next, ..m },
+            None => m,
         };
     }
     m
 }
 
 // The clock alone n mapper clocks on.
-fn advance_clock(m: Mbc3, n: u64) -> Advanced
+fn advance_clock(m: Mbc3, n: u64) -> Result<Mbc3, AdvanceRefusal>
     ensures { result ≡ from_clock m (ticking.advance_of m.clock n) }
 {
-    let clock = m.clock;
-    match clock.advance(n) {
-        clock::Advanced::To(next) => Advanced::To(Mbc3 { clock: next, ..m }),
-        clock::Advanced::Refuse(why) => Advanced::Refuse(why),
-    }
+    let clock = m.clock.advance(n)?;
+    Ok(Mbc3 { clock, ..m })
 }
 
 // n mapper clocks on. The clock tests itself, so only the rest is tested here.
-pub fn advance(m: Mbc3, n: u64) -> Advanced
+pub fn advance(m: Mbc3, n: u64) -> Result<Mbc3, AdvanceRefusal>
     ensures { result ≡ advance_of m n }
 {
     let banks = both(1 <= m.bank, m.ram <= 3);
     if !both(banks, either(!m.timer, m.register <= 4)) {
-        return Advanced::Refuse(AdvanceRefusal::Unfit);
+        return Err(AdvanceRefusal::Unfit);
     }
     if m.timer {
         return advance_clock(m, n);
     }
-    Advanced::To(m)
+    Ok(m)
 }

@@ -1,4 +1,5 @@
 -- What stands at a place, by its tests.
+use Rattle.std.specs.Prelude.{Ok, Err, Some, None, Result, Option}
 use mathlib.Core.Bool.{Bool, true, false}
 use mathlib.Core.List.{List, [], ◌∷◌}
 use mathlib.Core.Path.{◌≡◌, refl, sym, ap, ◌∙◌}
@@ -11,24 +12,21 @@ use Rattle.facts.specs.Choice.{pick, both}
 use Rattle.trace.specs.Trace.{Mark, body_of, record_of, kind_by, kind_of, left_at, whole_at, marked_at, record_at}
 use Rattle.trace.specs.declared.Record.{Record}
 use Rattle.trace.specs.declared.TraceRefusal.TheVariants.{CutShort}
-use Rattle.trace.specs.declared.Next.{Next}
-use Rattle.trace.specs.declared.Next.TheVariants.{Found, End, Refuse}
 use Rattle.trace.specs.declared.Kind.{Kind}
-use Rattle.trace.specs.declared.Marked.{Marked}
-use Rattle.trace.specs.declared.Marked.TheVariants.{Known, Unknown}
+use Rattle.trace.specs.declared.TraceRefusal.{TraceRefusal}
 
 -- ---- the marks, as one number of two bytes
 
-pub marked : {m : Marked} (a b x y : ℕ) → b < 256 → y < 256 → 256 * a + b ≡ 256 * x + y → m ≡ kind_of x y → m ≡ kind_of a b
+pub marked : {m : Option Kind} (a b x y : ℕ) → b < 256 → y < 256 → 256 * a + b ≡ 256 * x + y → m ≡ kind_of x y → m ≡ kind_of a b
 marked a b x y h l e is =
     let p : x ≡ a = omega arith in
     let q : y ≡ b = omega arith in
     is ∙ ap (λ (k : ℕ). kind_of k y) p ∙ ap (kind_of a) q
 
 -- two bytes that are none of a list's marks
-abbrev None : List Mark → ℕ → ℕ → Type 0
-None [] a b = Unit {0}
-None (m ∷ ms) a b = (256 * a + b ≡ 256 * m.first + m.second → ⊥) × None ms a b
+abbrev NoneOf : List Mark → ℕ → ℕ → Type 0
+NoneOf [] a b = Unit {0}
+NoneOf (m ∷ ms) a b = (256 * a + b ≡ 256 * m.first + m.second → ⊥) × NoneOf ms a b
 
 no_mark : (a b x y : ℕ) → (256 * a + b ≡ 256 * x + y → ⊥) → both (eqb a x) (eqb b y) ≡ false
 no_mark a b x y n = go (eqb a x) (eqb b y) refl refl
@@ -38,11 +36,11 @@ no_mark a b x y n = go (eqb a x) (eqb b y) refl refl
     go true false p q = refl
     go false t p q = refl
 
-pub unmarked : (ms : List Mark) (a b : ℕ) → None ms a b → Unknown ≡ kind_by ms a b
+pub unmarked : (ms : List Mark) (a b : ℕ) → NoneOf ms a b → None ≡ kind_by ms a b
 unmarked [] a b n = refl
 unmarked (m ∷ ms) a b n =
     unmarked ms a b n.1
-    ∙ sym (ap (λ (t : Bool). pick t (Known m.kind) (kind_by ms a b)) (no_mark a b m.first m.second n.0))
+    ∙ sym (ap (λ (t : Bool). pick t (Some m.kind) (kind_by ms a b)) (no_mark a b m.first m.second n.0))
 
 -- ---- what stands at a place
 
@@ -51,31 +49,31 @@ pub body_in : {k : Kind} (x : Kind) (s : List ℕ) (at : ℕ) → k ≡ x → at
 body_in x s at e h = rw (ap body_of (sym e)) h
 
 module _ (s : List ℕ) (at : ℕ) where
-  abbrev by_body : Kind → Bool → Next
-  by_body k t = pick t (Refuse (CutShort at)) (Found (record_of k s (at + 2)) (at + (2 + body_of k)))
+  abbrev by_body : Kind → Bool → Result (Option (Record × ℕ)) TraceRefusal
+  by_body k t = pick t (Err (CutShort at)) (Ok (Some (record_of k s (at + 2), at + (2 + body_of k))))
 
-  pub cut : {n : ℕ} (k : Kind) → n ≡ body_of k → left_at s at - 2 < n → Refuse (CutShort at) ≡ whole_at k s at
+  pub cut : {n : ℕ} (k : Kind) → n ≡ body_of k → left_at s at - 2 < n → Err (CutShort at) ≡ whole_at k s at
   unfolding whole_at
   cut k e h = sym (ap (by_body k) (lt-ltb (left_at s at) (2 + body_of k) (omega arith)))
 
   pub whole : {n : ℕ} {r : Record} (k : Kind) → at + 2 ≤ length s → n ≡ body_of k → n ≤ left_at s at - 2
-      → r ≡ record_of k s (at + 2) → Found r (at + 2 + n) ≡ whole_at k s at
+      → r ≡ record_of k s (at + 2) → Ok (Some (r, at + 2 + n)) ≡ whole_at k s at
   unfolding whole_at
   whole {n} {r} k h e l is =
       let p : at + 2 + n ≡ at + (2 + body_of k) = omega arith in
-      ap (λ (x : Record). Found x (at + 2 + n)) is ∙ ap (Found (record_of k s (at + 2))) p
+      ap (λ (x : Record). Ok (Some (x, at + 2 + n))) is ∙ ap (λ (n : ℕ). Ok (Some (record_of k s (at + 2), n))) p
       ∙ sym (ap (by_body k) (le-ltb (left_at s at) (2 + body_of k) (omega arith)))
 
-  pub none_left : length s ≤ at → End ≡ record_at s at
+  pub none_left : length s ≤ at → Ok None ≡ record_at s at
   unfolding record_at
   none_left h = sym (rw (eq-eqb (left_at s at) 0 (omega arith)) refl)
 
-  pub one_left : at < length s → left_at s at < 2 → Refuse (CutShort at) ≡ record_at s at
+  pub one_left : at < length s → left_at s at < 2 → Err (CutShort at) ≡ record_at s at
   unfolding record_at
   one_left h l = sym (rw (ne_eqb (left_at s at) 0 (λ e. omega arith), eq-eqb (left_at s at) 1 (omega arith)) refl)
 
-  pub two_left : {m : Marked} → 2 ≤ left_at s at → m ≡ kind_of (get_or s at 0) (get_or s (at + 1) 0) → marked_at m s at ≡ record_at s at
+  pub two_left : {m : Option Kind} → 2 ≤ left_at s at → m ≡ kind_of (get_or s at 0) (get_or s (at + 1) 0) → marked_at m s at ≡ record_at s at
   unfolding record_at
   two_left {m} h e =
-      ap (λ (x : Marked). marked_at x s at) e
+      ap (λ (x : Option Kind). marked_at x s at) e
       ∙ sym (rw (ne_eqb (left_at s at) 0 (λ e. omega arith), ne_eqb (left_at s at) 1 (λ e. omega arith)) refl)

@@ -1,4 +1,5 @@
 -- What stands at a place is the first refusal that is given there, or what is taken.
+use Rattle.std.specs.Prelude.{Ok, Err, Some, None, Option}
 use mathlib.Core.Bool.{Bool, true, false}
 use mathlib.Core.List.{List, [], ◌∷◌}
 use mathlib.Core.Path.{◌≡◌, refl}
@@ -12,29 +13,27 @@ use Rattle.trace.specs.Trace.{left_at, whole_at, marked_at, record_at}
 use Rattle.trace.specs.Noes.{mark_at, is_no_mark, no_mark_at, is_cut, cut_at, trace_noes, whole_in, taken_at}
 use Rattle.trace.specs.declared.TraceRefusal.{TraceRefusal}
 use Rattle.trace.specs.declared.TraceRefusal.TheVariants.{UnknownMark, CutShort}
-use Rattle.trace.specs.declared.Next.TheVariants.{End, Refuse}
-use Rattle.trace.specs.declared.Marked.{Marked}
-use Rattle.trace.specs.declared.Marked.TheVariants.{Known, Unknown}
+use Rattle.trace.specs.declared.Kind.{Kind}
 
 -- by how many bytes are left
-pub next_is_first : (s : List ℕ) (at : ℕ) → record_at s at ≡ first_no Refuse (trace_noes s at) (taken_at s at)
+pub next_is_first : (s : List ℕ) (at : ℕ) → record_at s at ≡ first_no Err (trace_noes s at) (taken_at s at)
 unfolding whole_at record_at no_mark_at cut_at taken_at
 next_is_first s at = go (eqb left 0) (eqb left 1) (leb 2 left) refl refl refl (mark_at s at)
   where
     left : ℕ
     left = left_at s at
 
-    marked : (m : Marked)
+    marked : (m : Option Kind)
         → marked_at m s at
-        ≡ first_no Refuse (no (is_no_mark m) (UnknownMark at) ∷ no (is_cut m left) (CutShort at) ∷ []) (whole_in m s at)
-    marked (Known k) = refl
-    marked Unknown = refl
+        ≡ first_no Err (no (is_no_mark m) (UnknownMark at) ∷ no (is_cut m left) (CutShort at) ∷ []) (whole_in m s at)
+    marked (Some k) = refl
+    marked None = refl
 
-    go : (a b c : Bool) → eqb left 0 ≡ a → eqb left 1 ≡ b → leb 2 left ≡ c → (m : Marked)
-        → pick a End (pick b (Refuse (CutShort at)) (marked_at m s at))
-        ≡ first_no Refuse
+    go : (a b c : Bool) → eqb left 0 ≡ a → eqb left 1 ≡ b → leb 2 left ≡ c → (m : Option Kind)
+        → pick a (Ok None) (pick b (Err (CutShort at)) (marked_at m s at))
+        ≡ first_no Err
         (no (both c (is_no_mark m)) (UnknownMark at) ∷ no (either b (both c (is_cut m left))) (CutShort at) ∷ [])
-        (pick a End (whole_in m s at))
+        (pick a (Ok None) (whole_in m s at))
     go true true c e f g m = absurd (omega (arith, eqb-true left 0 e, eqb-true left 1 f))
     go true false true e f g m = absurd (omega (arith, eqb-true left 0 e, leb-true 2 left g))
     go true false false e f g m = refl
@@ -44,12 +43,12 @@ next_is_first s at = go (eqb left 0) (eqb left 1) (leb 2 left) refl refl refl (m
     go false false true e f g m = marked m
 
 -- what is taken is no refusal
-pub taken_is_none : (s : List ℕ) (at : ℕ) (w : TraceRefusal) → taken_at s at ≡ Refuse w → false ≡ true
+pub taken_is_none : (s : List ℕ) (at : ℕ) (w : TraceRefusal) → taken_at s at ≡ Err w → false ≡ true
 unfolding taken_at
 taken_is_none s at w = go (mark_at s at) (eqb (left_at s at) 0)
   where
-    go : (m : Marked) (t : Bool) → pick t End (whole_in m s at) ≡ Refuse w → false ≡ true
-    go (Known k) true e = cc
-    go (Known k) false e = cc
-    go Unknown true e = cc
-    go Unknown false e = cc
+    go : (m : Option Kind) (t : Bool) → pick t (Ok None) (whole_in m s at) ≡ Err w → false ≡ true
+    go (Some k) true e = cc
+    go (Some k) false e = cc
+    go None true e = cc
+    go None false e = cc

@@ -1,5 +1,6 @@
 -- What an answer says of the places, and the records from a place on: by what stands there, and as a caller reads them one
 -- after the other.
+use Rattle.std.specs.Prelude.{Ok, Err, Some, None, Result, Option}
 use mathlib.Core.List.{List}
 use mathlib.Core.Path.{◌≡◌, refl, sym, ap, ◌∙◌, subst}
 use Prim.Native.Nat.{ℕ, zero, suc, ◌+◌, ◌<◌, ◌≤◌, zero-le}
@@ -34,12 +35,8 @@ use Rattle.trace.specs.Reads as reads
 use Rattle.trace.specs.declared.Record.{Record}
 use Rattle.trace.specs.declared.Record.TheVariants as record'
 use Rattle.trace.specs.declared.TraceRefusal.{TraceRefusal}
-use Rattle.trace.specs.declared.Next.{Next}
-use Rattle.trace.specs.declared.Next.TheVariants.{Found, End, Refuse}
 use Rattle.trace.specs.declared.Kind.{Kind}
 use Rattle.trace.specs.declared.Kind.TheVariants.{Read, Write, Clocks}
-use Rattle.trace.specs.declared.Marked.{Marked}
-use Rattle.trace.specs.declared.Marked.TheVariants.{Known, Unknown}
 
 -- ---- the places that an answer speaks of
 
@@ -62,12 +59,12 @@ sound s at =
     (λ e. let h : at < length s = omega (arith, eqb-false (left_at s at) 0 e) in
     pick_cases (Sound s at) (eqb (left_at s at) 1) (λ f. (refl, h)) (λ f. go h (kind_of (get_or s at 0) (get_or s (at + 1) 0))))
   where
-    go : at < length s → (m : Marked) → Sound s at (marked_at m s at)
-    go h (Known k) = whole_sound k s at h
-    go h Unknown = (refl, h)
+    go : at < length s → (m : Option Kind) → Sound s at (marked_at m s at)
+    go h (Some k) = whole_sound k s at h
+    go h None = (refl, h)
 
 -- Progress: behind a record lies a place that is greater by its size, 4, 5 or 6, and at most the trace's length.
-pub after_found : (s : List ℕ) (at : ℕ) {after : ℕ} {r : Record} → record_at s at ≡ Found r after
+pub after_found : (s : List ℕ) (at : ℕ) {after : ℕ} {r : Record} → record_at s at ≡ Ok (Some (r, after))
     → (after ≡ at + size_of r) × (after ≤ length s)
 after_found s at e = subst (Sound s at) e (sound s at)
 
@@ -76,17 +73,17 @@ size_bounds (record'.Read addr) = (omega arith, omega arith)
 size_bounds (record'.Write addr byte) = (omega arith, omega arith)
 size_bounds (record'.Clocks count) = (omega arith, omega arith)
 
-pub progress : (s : List ℕ) (at : ℕ) {after : ℕ} {r : Record} → record_at s at ≡ Found r after
+pub progress : (s : List ℕ) (at : ℕ) {after : ℕ} {r : Record} → record_at s at ≡ Ok (Some (r, after))
     → (at < after) × (after ≤ length s)
 progress s at {r = r} e =
     let p = after_found s at e in
     (omega (arith, p.0, (size_bounds r).0), p.1)
 
 -- A refusal's place is the record's own, and in the trace.
-pub place_refused : (s : List ℕ) (at : ℕ) {w : TraceRefusal} → record_at s at ≡ Refuse w → (place_of w ≡ at) × (at < length s)
+pub place_refused : (s : List ℕ) (at : ℕ) {w : TraceRefusal} → record_at s at ≡ Err w → (place_of w ≡ at) × (at < length s)
 place_refused s at e = subst (Sound s at) e (sound s at)
 
-pub none_at_end : (s : List ℕ) (at : ℕ) → record_at s at ≡ End → length s ≤ at
+pub none_at_end : (s : List ℕ) (at : ℕ) → record_at s at ≡ (Ok None) → length s ≤ at
 none_at_end s at e = subst (Sound s at) e (sound s at)
 
 -- ---- the records from a place on
@@ -98,12 +95,12 @@ more zero n s at h l = absurd (omega arith)
 more (suc m) zero s at h l = absurd (omega arith)
 more (suc m) (suc n) s at h l = go (record_at s at) (sound s at) (more m n s)
   where
-    go : (x : Next) → Sound s at x → ((k : ℕ) → left_at s k < m → left_at s k < n → records_in m s k ≡ records_in n s k)
+    go : (x : Result (Option (Record × ℕ)) TraceRefusal) → Sound s at x → ((k : ℕ) → left_at s k < m → left_at s k < n → records_in m s k ≡ records_in n s k)
         → records_by (records_in m s) at x ≡ records_by (records_in n s) at x
-    go (Found r after) p f =
+    go (Ok (Some (r, after))) p f =
         let b = size_bounds r in ap (and_then r) (f after (omega (arith, p.0, p.1, b.0)) (omega (arith, p.0, p.1, b.0)))
-    go End p f = refl
-    go (Refuse w) p f = refl
+    go (Ok None) p f = refl
+    go (Err w) p f = refl
 
 pub enough : (n : ℕ) (s : List ℕ) (at : ℕ) → left_at s at < n → records_in n s at ≡ records_from s at
 unfolding records_from
@@ -114,20 +111,20 @@ pub from_by : (s : List ℕ) (at : ℕ) → records_from s at ≡ records_by (re
 unfolding records_from records_in
 from_by s at = go (record_at s at) (sound s at)
   where
-    go : (x : Next) → Sound s at x → records_by (records_in (left_at s at) s) at x ≡ records_by (records_from s) at x
-    go (Found r after) p =
+    go : (x : Result (Option (Record × ℕ)) TraceRefusal) → Sound s at x → records_by (records_in (left_at s at) s) at x ≡ records_by (records_from s) at x
+    go (Ok (Some (r, after))) p =
         let b = size_bounds r in ap (and_then r) (enough (left_at s at) s after (omega (arith, p.0, p.1, b.0)))
-    go End p = refl
-    go (Refuse w) p = refl
+    go (Ok None) p = refl
+    go (Err w) p = refl
 
-pub from_record : (s : List ℕ) (at : ℕ) {after : ℕ} {r : Record} → record_at s at ≡ Found r after
+pub from_record : (s : List ℕ) (at : ℕ) {after : ℕ} {r : Record} → record_at s at ≡ Ok (Some (r, after))
     → records_from s at ≡ and_then r (records_from s after)
 from_record s at e = from_by s at ∙ ap (records_by (records_from s) at) e
 
-pub from_end : (s : List ℕ) (at : ℕ) → record_at s at ≡ End → records_from s at ≡ stopped at ended
+pub from_end : (s : List ℕ) (at : ℕ) → record_at s at ≡ (Ok None) → records_from s at ≡ stopped at ended
 from_end s at e = from_by s at ∙ ap (records_by (records_from s) at) e
 
-pub from_refused : (s : List ℕ) (at : ℕ) {w : TraceRefusal} → record_at s at ≡ Refuse w
+pub from_refused : (s : List ℕ) (at : ℕ) {w : TraceRefusal} → record_at s at ≡ Err w
     → records_from s at ≡ stopped at (refused w)
 from_refused s at e = from_by s at ∙ ap (records_by (records_from s) at) e
 
@@ -150,11 +147,11 @@ unfolding records_in
 reads_in zero s at h = absurd (omega arith)
 reads_in (suc n) s at h = go (record_at s at) refl (sound s at) (reads_in n s)
   where
-    go : (x : Next) → x ≡ record_at s at → Sound s at x → ((k : ℕ) → left_at s k < n → Reads s k (records_in n s k))
+    go : (x : Result (Option (Record × ℕ)) TraceRefusal) → x ≡ record_at s at → Sound s at x → ((k : ℕ) → left_at s k < n → Reads s k (records_in n s k))
         → Reads s at (records_by (records_in n s) at x)
-    go (Found r after) e p f = let b = size_bounds r in reads.found e (f after (omega (arith, p.0, p.1, b.0)))
-    go End e p f = reads.end e
-    go (Refuse w) e p f = reads.refuse e
+    go (Ok (Some (r, after))) e p f = let b = size_bounds r in reads.found e (f after (omega (arith, p.0, p.1, b.0)))
+    go (Ok None) e p f = reads.end e
+    go (Err w) e p f = reads.refuse e
 
 pub reads_on : (s : List ℕ) (at : ℕ) → Reads s at (records_from s at)
 unfolding records_from

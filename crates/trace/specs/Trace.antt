@@ -1,5 +1,5 @@
 -- What stands at a place of a trace, and all its records (Trace 1 to 3).
-use Rattle.std.specs.Prelude.{List, [], ◌∷◌, ℕ, zero, suc, ◌+◌, ◌-◌, eqb, ltb, length, get_or}
+use Rattle.std.specs.Prelude.{List, [], ◌∷◌, ℕ, zero, suc, ◌+◌, ◌-◌, eqb, ltb, length, get_or, Ok, Err, Some, None, Result, Option}
 use Rattle.std.specs.Borrow.{Bor}
 use Rattle.facts.specs.Choice.{pick, both}
 use Rattle.bytes_le.specs.Little.{field_at}
@@ -7,12 +7,8 @@ use Rattle.trace.specs.declared.Record.{Record}
 use Rattle.trace.specs.declared.Record.TheVariants as record'
 use Rattle.trace.specs.declared.TraceRefusal.{TraceRefusal}
 use Rattle.trace.specs.declared.TraceRefusal.TheVariants.{UnknownMark, CutShort}
-use Rattle.trace.specs.declared.Next.{Next}
-use Rattle.trace.specs.declared.Next.TheVariants.{Found, End, Refuse}
 use Rattle.trace.specs.declared.Kind.{Kind}
 use Rattle.trace.specs.declared.Kind.TheVariants.{Read, Write, Clocks}
-use Rattle.trace.specs.declared.Marked.{Marked}
-use Rattle.trace.specs.declared.Marked.TheVariants.{Known, Unknown}
 use Rattle.trace.specs.declared.Reader.{Reader}
 
 -- Numbers 22: "UnknownMark"; Numbers 23: "CutShort"
@@ -54,11 +50,11 @@ record_of Write s at = record'.Write (field_at 2 s at) (field_at 1 s (at + 2))
 record_of Clocks s at = record'.Clocks (field_at 4 s at)
 
 -- the kind that two bytes mark, by a list of marks and by all of them
-abbrev pub kind_by : List Mark → ℕ → ℕ → Marked
-kind_by [] a b = Unknown
-kind_by (m ∷ ms) a b = pick (both (eqb a m.first) (eqb b m.second)) (Known m.kind) (kind_by ms a b)
+abbrev pub kind_by : List Mark → ℕ → ℕ → Option Kind
+kind_by [] a b = None
+kind_by (m ∷ ms) a b = pick (both (eqb a m.first) (eqb b m.second)) (Some m.kind) (kind_by ms a b)
 
-unfoldable pub kind_of : ℕ → ℕ → Marked
+unfoldable pub kind_of : ℕ → ℕ → Option Kind
 unfolding marks
 kind_of a b = kind_by marks a b
 
@@ -69,21 +65,21 @@ abbrev pub left_at : List ℕ → ℕ → ℕ
 left_at s at = length s - at
 
 -- Trace 2: "a mark whose body is not all there, is number 23", or the record and the place behind it
-unfoldable pub whole_at : Kind → List ℕ → ℕ → Next
+unfoldable pub whole_at : Kind → List ℕ → ℕ → Result (Option (Record × ℕ)) TraceRefusal
 whole_at k s at =
-    pick (ltb (left_at s at) (2 + body_of k)) (Refuse (CutShort at)) (Found (record_of k s (at + 2)) (at + (2 + body_of k)))
+    pick (ltb (left_at s at) (2 + body_of k)) (Err (CutShort at)) (Ok (Some (record_of k s (at + 2), at + (2 + body_of k))))
 
 -- Trace 2: "two bytes that are no mark are number 22"
-abbrev pub marked_at : Marked → List ℕ → ℕ → Next
-marked_at (Known k) s at = whole_at k s at
-marked_at Unknown s at = Refuse (UnknownMark at)
+abbrev pub marked_at : Option Kind → List ℕ → ℕ → Result (Option (Record × ℕ)) TraceRefusal
+marked_at (Some k) s at = whole_at k s at
+marked_at None s at = Err (UnknownMark at)
 
 -- Trace 2: "At a place where no byte is left, the end or beyond it, the trace ends. One byte alone .. is number 23", or two
 -- bytes that are a mark or not
-unfoldable pub record_at : List ℕ → ℕ → Next
+unfoldable pub record_at : List ℕ → ℕ → Result (Option (Record × ℕ)) TraceRefusal
 record_at s at =
-    pick (eqb (left_at s at) 0) End
-    (pick (eqb (left_at s at) 1) (Refuse (CutShort at)) (marked_at (kind_of (get_or s at 0) (get_or s (at + 1) 0)) s at))
+    pick (eqb (left_at s at) 0) (Ok None)
+    (pick (eqb (left_at s at) 1) (Err (CutShort at)) (marked_at (kind_of (get_or s at 0) (get_or s (at + 1) 0)) s at))
 
 -- Trace 3: "A reader is a trace that is lent to it, and the place where it stands"
 abbrev pub reader_at : Bor (List ℕ) → ℕ → Reader
@@ -121,10 +117,10 @@ and_then r rest = record { records = r ∷ rest.records; place = rest.place; sto
 
 -- the records from a place on, by what stands there: behind a record the reading goes on, at the end it stops, and so it does
 -- at a refusal, Trace 7: "nothing more is read"
-abbrev pub records_by : (ℕ → Records) → ℕ → Next → Records
-records_by rest at (Found r after) = and_then r (rest after)
-records_by rest at End = stopped at ended
-records_by rest at (Refuse w) = stopped at (refused w)
+abbrev pub records_by : (ℕ → Records) → ℕ → Result (Option (Record × ℕ)) TraceRefusal → Records
+records_by rest at (Ok (Some (r, after))) = and_then r (rest after)
+records_by rest at (Ok None) = stopped at ended
+records_by rest at (Err w) = stopped at (refused w)
 
 -- the same, where at most n places are looked at
 unfoldable pub records_in : ℕ → List ℕ → ℕ → Records

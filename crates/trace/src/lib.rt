@@ -5,7 +5,9 @@
 ghost use Rattle.std.specs.Prelude.{◌≡◌, ◌+◌, ◌≤◌, length};
 ghost use Rattle.trace.specs.Trace.{number_of, place_of, body_of, kind_of, record_of, whole_at, record_at, reader_at};
 
-#[derive(Drop)]
+use bytes_le::Field;
+
+#[derive(Clone, Copy, Debug, PartialEq, Eq)]
 pub enum Record {
     Read { addr: u16 },
     Write { addr: u16, byte: u8 },
@@ -13,18 +15,10 @@ pub enum Record {
 }
 
 // Why no record stands at a place, with that place.
-#[derive(Clone, Copy)]
+#[derive(Clone, Copy, Debug, PartialEq, Eq)]
 pub enum TraceRefusal {
     UnknownMark(usize),
     CutShort(usize),
-}
-
-// What stands at a place: a record, with the place behind it.
-#[derive(Drop)]
-pub enum Next {
-    Found(Record, usize),
-    End,
-    Refuse(TraceRefusal),
 }
 
 // A kind of record has a mark, a length of its body, and fields: `kind_of`, `body` and `record_of` say which.
@@ -33,12 +27,6 @@ enum Kind {
     Read,
     Write,
     Clocks,
-}
-
-#[derive(Drop)]
-enum Marked {
-    Known(Kind),
-    Unknown,
 }
 
 impl TraceRefusal {
@@ -75,15 +63,15 @@ impl Kind {
     }
 }
 
-// The kind of record that two bytes mark.
-fn kind_of(first: u8, second: u8) -> Marked
+// The kind of record that two bytes mark, if they mark one.
+fn kind_of(first: u8, second: u8) -> Option<Kind>
     ensures { result ≡ kind_of first second }
 {
     match 256 * (first as u16) + second as u16 {
-        0x5244 => Marked::Known(Kind::Read),
-        0x5752 => Marked::Known(Kind::Write),
-        0x434B => Marked::Known(Kind::Clocks),
-        _ => Marked::Unknown,
+        0x5244 => Some(Kind::Read),
+        0x5752 => Some(Kind::Write),
+        0x434B => Some(Kind::Clocks),
+        _ => None,
     }
 }
 
@@ -94,44 +82,44 @@ fn record_of(kind: Kind, bytes: &[u8], at: usize) -> Record
 {
     match kind {
         Kind::Read => Record::Read {
-            addr: bytes_le::read_u16(bytes, at),
+            addr: u16::read(bytes, at),
         },
         Kind::Write => Record::Write {
-            addr: bytes_le::read_u16(bytes, at),
-            byte: bytes_le::read_u8(bytes, at + 2),
+            addr: u16::read(bytes, at),
+            byte: u8::read(bytes, at + 2),
         },
         Kind::Clocks => Record::Clocks {
-            count: bytes_le::read_u32(bytes, at),
+            count: u32::read(bytes, at),
         },
     }
 }
 
-// The record whose mark stands at a place, unless its body is cut.
-fn whole_at(kind: Kind, bytes: &[u8], at: usize) -> Next
+// The record whose mark stands at a place, and the place behind it, unless its body is cut.
+fn whole_at(kind: Kind, bytes: &[u8], at: usize) -> Result<Option<(Record, usize)>, TraceRefusal>
     requires { at + 2 ≤ length bytes.now }
     ensures { result ≡ whole_at kind bytes.now at }
 {
     let body = kind.body();
     if bytes.len() - at - 2 < body {
-        return Next::Refuse(TraceRefusal::CutShort(at));
+        return Err(TraceRefusal::CutShort(at));
     }
-    Next::Found(record_of(kind, bytes, at + 2), at + 2 + body)
+    Ok(Some((record_of(kind, bytes, at + 2), at + 2 + body)))
 }
 
-// What stands at a place. At the trace's end and beyond it nothing is left.
-fn record_at(bytes: &[u8], at: usize) -> Next
+// What stands at a place: a record and the place behind it, or none. At the trace's end and beyond it nothing is left.
+fn record_at(bytes: &[u8], at: usize) -> Result<Option<(Record, usize)>, TraceRefusal>
     ensures { result ≡ record_at bytes.now at }
 {
     if bytes.len() <= at {
-        return Next::End;
+        return Ok(None);
     }
     if bytes.len() - at < 2 {
-        return Next::Refuse(TraceRefusal::CutShort(at));
+        return Err(TraceRefusal::CutShort(at));
     }
-    match kind_of(bytes[at], bytes[at + 1]) {
-        Marked::Known(kind) => whole_at(kind, bytes, at),
-        Marked::Unknown => Next::Refuse(TraceRefusal::UnknownMark(at)),
-    }
+    let Some(kind) = kind_of(bytes[at], bytes[at + 1]) else {
+        return Err(TraceRefusal::UnknownMark(at));
+    };
+    whole_at(kind, bytes, at)
 }
 
 // A reader: the trace that is lent to it, and the place where it stands.
@@ -160,7 +148,7 @@ impl<'a> Reader<'a> {
     }
 
     // What stands at the reader's place.
-    pub fn next(self) -> Next
+    pub fn next(self) -> Result<Option<(Record, usize)>, TraceRefusal>
         ensures { result ≡ record_at self.entry.trace.now self.entry.at }
     {
         record_at(self.trace, self.at)
@@ -168,7 +156,7 @@ impl<'a> Reader<'a> {
 }
 
 // What stands at a place of a trace, for a caller that keeps the two itself.
-pub fn next_record(trace: &[u8], at: usize) -> Next
+pub fn next_record(trace: &[u8], at: usize) -> Result<Option<(Record, usize)>, TraceRefusal>
     ensures { result ≡ record_at trace.now at }
 {
     Reader::new(trace).moved(at).next()

@@ -3,7 +3,7 @@
 #![tactic(auto)]
 
 use std::io;
-use trace::{Next, Record, TraceRefusal};
+use trace::{Record, TraceRefusal};
 
 fn number(rt: &impl Print, n: u64) -> io::Result<()> {
     print!(rt; " {n}")
@@ -34,19 +34,19 @@ fn refused(rt: &impl Print, why: TraceRefusal) -> io::Result<()> {
     println!(rt)
 }
 
-// The records from a place on.
+// The records from a place on. No `for` over them: what ends them is shown too.
 fn from(rt: &impl Print, bytes: &[u8], start: usize) -> io::Result<()> {
     let length = bytes.len();
     print!(rt; "{length}")?;
     let mut at = start;
     loop {
         match trace::next_record(bytes, at) {
-            Next::Found(r, after) => {
+            Ok(Some((r, after))) => {
                 record(rt, r)?;
                 at = after;
             }
-            Next::End => return println!(rt; " end"),
-            Next::Refuse(why) => return refused(rt, why),
+            Ok(None) => return println!(rt; " end"),
+            Err(why) => return refused(rt, why),
         }
     }
 }

@@ -1,11 +1,9 @@
 -- The types (Header 6), and what each kind can hold (Header 11).
-use Rattle.std.specs.Prelude.{Bool, true, false, not, List, [], ◌∷◌, ℕ, eqb, ltb}
+use Rattle.std.specs.Prelude.{Bool, true, false, not, List, [], ◌∷◌, ℕ, eqb, ltb, Some, None, Option}
 use Rattle.facts.specs.Choice.{pick, either}
 use Rattle.types.specs.declared.Kind.{Kind}
 use Rattle.types.specs.declared.Kind.TheVariants.{NoMapper, Mbc1, Mbc2, Mbc3, Mbc5, Mmm01, Mbc6, Mbc7}
 use Rattle.types.specs.declared.TypeRow.{TypeRow}
-use Rattle.types.specs.declared.Found.{Found}
-use Rattle.types.specs.declared.Found.TheVariants.{Row, Unknown}
 
 abbrev pub row : ℕ → Kind → Bool → Bool → TypeRow
 row b k ram battery = (b, k, ram, battery)
@@ -44,11 +42,11 @@ types =
     ∷ []
 
 -- the first row of a list with the byte b
-unfoldable pub find_row : List TypeRow → ℕ → Found
-find_row [] b = Unknown
-find_row (r ∷ rs) b = pick (eqb r.0 b) (Row r) (find_row rs b)
+unfoldable pub find_row : List TypeRow → ℕ → Option TypeRow
+find_row [] b = None
+find_row (r ∷ rs) b = pick (eqb r.0 b) (Some r) (find_row rs b)
 
-unfoldable pub type_of : ℕ → Found
+unfoldable pub type_of : ℕ → Option TypeRow
 unfolding find_row types
 type_of b = find_row types b
 

@@ -1,8 +1,8 @@
 // The types of cartridge by their byte: a table of 24 rows, which of the kinds are supported, and how much each can hold.
 #![tactic(auto)]
 
-ghost use Rattle.std.specs.Prelude.{◌≡◌, ◌<◌, get_or};
-ghost use Rattle.types.specs.Types.{types, no_row, type_of, supported_of, beyond_of};
+ghost use Rattle.std.specs.Prelude.{◌≡◌};
+ghost use Rattle.types.specs.Types.{type_of, supported_of, beyond_of};
 
 use facts::either;
 
@@ -49,33 +49,16 @@ const TYPES: [TypeRow; 24] = [
     TypeRow(0x22, Kind::Mbc7, true, true),
 ];
 
-// What stands at a type byte.
-#[derive(Drop)]
-pub enum Found {
-    Row(TypeRow),
-    Unknown,
-}
-
-fn row_at(i: usize) -> TypeRow
-    requires { i < 24 }
-    ensures { result ≡ get_or types i no_row }
-{
-    TYPES[i]
-}
-
-// The row of a type byte.
-pub fn find(b: u8) -> Found
+// The row of a type byte, if it is known.
+pub fn find(b: u8) -> Option<TypeRow>
     ensures { result ≡ type_of b }
 {
-    let mut i: usize = 0;
-    while i < 24 {
-        let r = row_at(i);
-        if r.0 == b {
-            return Found::Row(r);
+    for &row in &TYPES {
+        if row.0 == b {
+            return Some(row);
         }
-        i += 1;
     }
-    Found::Unknown
+    None
 }
 
 pub fn is_supported(kind: Kind) -> bool

@@ -109,10 +109,8 @@ pub fn is_utf8(s: &[u8]) -> bool
     ensures { result ≡ is_utf8 s.now }
 {
     let mut state = State::Whole;
-    let mut i: usize = 0;
-    while i < s.len() {
-        state = next(state, s[i]);
-        i += 1;
+    for &b in s {
+        state = next(state, b);
     }
     whole(state)
 }

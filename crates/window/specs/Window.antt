@@ -1,9 +1,7 @@
 -- The RAM window 0xA000..=0xBFFF: what it shows, what a write to it changes (Bus 5, Bus 6, Bus 15, Bus 19).
-use Rattle.std.specs.Prelude.{List, ◌++◌, ◌≡◌, ℕ, ◌+◌, get_or, set, take, drop}
+use Rattle.std.specs.Prelude.{List, ◌++◌, ◌≡◌, ℕ, ◌+◌, get_or, set, take, drop, Some, None, Option}
 use Rattle.facts.specs.Choice.{pick}
 use Rattle.banking.specs.Banks.{Inside}
-use Rattle.banking.specs.declared.RamAt.{RamAt}
-use Rattle.banking.specs.declared.RamAt.TheVariants.{At, NotMapped}
 use Rattle.no_mapper.specs.Registers as none
 use Rattle.mbc1.specs.Registers as mbc1
 use Rattle.mbc2.specs.Registers as mbc2
@@ -29,13 +27,13 @@ way_of (Mbc3 m) size addr = by_selection m size addr
 way_of (Mbc5 m) size addr = Bytes (mbc5.ram_at m size addr)
 
 -- Bus 6: "What is not mapped reads 0xFF, and a write there changes nothing"
-abbrev pub loaded : List ℕ → RamAt → ℕ
-loaded ram (At i) = get_or ram i 0
-loaded ram NotMapped = 0xFF
+abbrev pub loaded : List ℕ → Option ℕ → ℕ
+loaded ram (Some i) = get_or ram i 0
+loaded ram None = 0xFF
 
-abbrev pub stored : List ℕ → RamAt → ℕ → List ℕ
-stored ram (At i) byte = set ram i byte
-stored ram NotMapped byte = ram
+abbrev pub stored : List ℕ → Option ℕ → ℕ → List ℕ
+stored ram (Some i) byte = set ram i byte
+stored ram None byte = ram
 
 -- Header 12: "half-bytes, which are the last 512 of the area .. MBC2's operations are lent that part alone"
 abbrev pub read_by : Way → ℕ → List ℕ → ℕ → ℕ

@@ -6,7 +6,6 @@ ghost use Rattle.banking.specs.Banks.{Inside};
 ghost use Rattle.mapper.specs.Mappers.{area_of};
 ghost use Rattle.window.specs.Window.{by_selection, way_of, loaded, stored, read_by, area_by, mapper_by, read_of, area_after, mapper_after, Within};
 
-use banking::RamAt;
 use mapper::Mapper;
 use mbc2::Mbc2;
 use mbc3::Mbc3;
@@ -14,7 +13,8 @@ use mbc3::Mbc3;
 // What an address of the window leads to.
 #[derive(Drop)]
 pub enum Way {
-    Bytes(RamAt),
+    // A place in the lent bytes, if one is mapped.
+    Bytes(Option<usize>),
     Half(Mbc2),
     Timer(Mbc3),
 }
@@ -41,25 +41,22 @@ pub fn way_of(mapper: Mapper, size: usize, addr: u16) -> Way
     }
 }
 
-pub fn load(ram: &[u8], place: RamAt) -> u8
+pub fn load(ram: &[u8], place: Option<usize>) -> u8
     requires { Inside place (length ram.now) }
     ensures { result ≡ loaded ram.now place }
 {
     match place {
-        RamAt::At(i) => ram[i],
-        RamAt::NotMapped => 0xFF,
+        Some(i) => ram[i],
+        None => 0xFF,
     }
 }
 
-fn store(ram: &mut [u8], place: RamAt, byte: u8)
+fn store(ram: &mut [u8], place: Option<usize>, byte: u8)
     requires { Inside place (length ram.old) }
     ensures { ram.new ≡ stored ram.old place byte }
 {
-    match place {
-        RamAt::At(i) => {
-            ram[i] = byte;
-        }
-        RamAt::NotMapped => {}
+    if let Some(i) = place {
+        ram[i] = byte;
     }
 }
 

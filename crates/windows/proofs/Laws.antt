@@ -1,4 +1,5 @@
 -- What the windows' code rests on: places that fit 32 bits, and the answers by an address and by how the RAM is mapped.
+use Rattle.std.specs.Prelude.{Ok, Err, Some, None, Option}
 use mathlib.Core.Bool.{Bool, true, false}
 use mathlib.Core.List.{List, [], ◌∷◌}
 use mathlib.Core.Path.{◌≡◌, refl, sym, ap, ◌∙◌}
@@ -9,8 +10,6 @@ use lib.ListN.{get_or, set, get_or-eq_default}
 use borrow.Author.Tests.{lt-ltb, le-ltb}
 use Rattle.facts.specs.Choice.{pick}
 use Rattle.banking.specs.Banks.{Inside, rom_place}
-use Rattle.banking.specs.declared.RamAt.{RamAt}
-use Rattle.banking.specs.declared.RamAt.TheVariants.{At, NotMapped}
 use Rattle.banking.proofs.Laws.{rom_inside}
 use Rattle.image.specs.Image.{byte_at}
 use Rattle.mapper.specs.Mappers.{area_of, bank_at}
@@ -29,15 +28,13 @@ use Rattle.windows.specs.Windows.{Small, Stands, by_way, ram_at, rom_at, windows
 use Rattle.windows.specs.Through.{place_in, ram_seen, rom_start, seen_of, put_by, put_of, area_by, area_after}
 use Rattle.windows.specs.declared.Windows.{Windows}
 use Rattle.windows.specs.declared.RamWindow.{RamWindow}
-use Rattle.windows.specs.declared.Seen.TheVariants.{Byte}
-use Rattle.windows.specs.declared.Seen.TheVariants as read
-use Rattle.windows.specs.declared.Put.TheVariants as write
+use Rattle.windows.specs.declared.Miss.TheVariants.{BadAddress, Ask}
 
 -- ---- places of 32 bits
 
-inside_le : (p : RamAt) {a b : ℕ} → a ≤ b → Inside p a → Inside p b
-inside_le (At i) h l = omega arith
-inside_le NotMapped h l = tt
+inside_le : (p : Option ℕ) {a b : ℕ} → a ≤ b → Inside p a → Inside p b
+inside_le (Some i) h l = omega arith
+inside_le None h l = tt
 
 small : (w : Way) (size n : ℕ) → n ≤ 0x20200 → Within w size n → Small w size
 small (Bytes p) size n h i = inside_le p h i
@@ -70,62 +67,62 @@ fit_stands c e = record { some = fit_banks c e; few = fit_count c e; small = fit
 
 module _ (w : Windows) (rom ram : List ℕ) (addr : ℕ) where
   by_tests : {low inside : Bool} → ltb addr 0x8000 ≡ low → in_ram addr ≡ inside
-      → pick low (Byte (byte_at rom (rom_start w addr + addr % 0x4000))) (pick inside (ram_seen w ram addr) read.BadAddress)
+      → pick low (Ok (byte_at rom (rom_start w addr + addr % 0x4000))) (pick inside (ram_seen w ram addr) (Err BadAddress))
       ≡ seen_of w rom ram addr
   unfolding seen_of
   by_tests p q = rw (p, q)
 
-  pub seen_rom : addr < 0x8000 → Byte (byte_at rom (rom_start w addr + addr % 0x4000)) ≡ seen_of w rom ram addr
+  pub seen_rom : addr < 0x8000 → Ok (byte_at rom (rom_start w addr + addr % 0x4000)) ≡ seen_of w rom ram addr
   seen_rom h = by_tests (lt-ltb addr 0x8000 h) refl
 
   pub seen_ram : 0xA000 ≤ addr → addr < 0xC000 → ram_seen w ram addr ≡ seen_of w rom ram addr
   seen_ram l h = by_tests (le-ltb addr 0x8000 (omega arith)) (ram_window addr l h)
 
-  pub seen_outside : 0x8000 ≤ addr → in_ram addr ≡ false → read.BadAddress ≡ seen_of w rom ram addr
+  pub seen_outside : 0x8000 ≤ addr → in_ram addr ≡ false → Err BadAddress ≡ seen_of w rom ram addr
   seen_outside l h = by_tests (le-ltb addr 0x8000 l) h
 
 -- ---- a write by its address
 
 module _ (w : Windows) (ram : List ℕ) (addr byte : ℕ) where
   put_tests : {low inside : Bool} → ltb addr 0x8000 ≡ low → in_ram addr ≡ inside
-      → (pick low write.Ask (pick inside (put_by w) write.BadAddress) ≡ put_of w addr)
+      → (pick low (Err Ask) (pick inside (put_by w) (Err BadAddress)) ≡ put_of w addr)
       × (pick inside (area_by w ram addr byte) ram ≡ area_after w ram addr byte)
   unfolding put_of area_after
   put_tests p q = (rw (p, q), rw q)
 
-  pub put_low : addr < 0x8000 → (write.Ask ≡ put_of w addr) × (ram ≡ area_after w ram addr byte)
+  pub put_low : addr < 0x8000 → ((Err Ask) ≡ put_of w addr) × (ram ≡ area_after w ram addr byte)
   put_low h = put_tests (lt-ltb addr 0x8000 h) (below_ram addr (omega arith))
 
   pub put_ram : 0xA000 ≤ addr → addr < 0xC000 → (put_by w ≡ put_of w addr) × (area_by w ram addr byte ≡ area_after w ram addr byte)
   put_ram l h = put_tests (le-ltb addr 0x8000 (omega arith)) (ram_window addr l h)
 
-  pub put_outside : 0x8000 ≤ addr → in_ram addr ≡ false → (write.BadAddress ≡ put_of w addr) × (ram ≡ area_after w ram addr byte)
+  pub put_outside : 0x8000 ≤ addr → in_ram addr ≡ false → ((Err BadAddress) ≡ put_of w addr) × (ram ≡ area_after w ram addr byte)
   put_outside l h = put_tests (le-ltb addr 0x8000 l) h
 
 -- ---- the RAM window by how it is mapped
 
 module _ (w : Windows) (ram : List ℕ) (addr byte : ℕ) where
-  pub stores_none : w.how ≡ 0 → (write.Done ≡ put_by w) × (ram ≡ area_by w ram addr byte)
+  pub stores_none : w.how ≡ 0 → ((Ok tt) ≡ put_by w) × (ram ≡ area_by w ram addr byte)
   unfolding put_by area_by
   stores_none e = (rw e, rw e)
 
   pub stores_byte : {at : ℕ} {r : List ℕ} → w.how ≡ 1 → at ≡ place_in w addr → r ≡ set ram at byte
-      → (write.Done ≡ put_by w) × (r ≡ area_by w ram addr byte)
+      → ((Ok tt) ≡ put_by w) × (r ≡ area_by w ram addr byte)
   unfolding put_by area_by
   stores_byte e p q = (rw e, rw (e, sym p) q)
 
   pub stores_half : {at b : ℕ} {r : List ℕ} → w.how ≡ 2 → at ≡ place_in w addr → b ≡ byte % 16 → r ≡ set ram at b
-      → (write.Done ≡ put_by w) × (r ≡ area_by w ram addr byte)
+      → ((Ok tt) ≡ put_by w) × (r ≡ area_by w ram addr byte)
   unfolding put_by area_by
   stores_half e p s q = (rw e, rw (e, sym p, sym s) q)
 
-  pub stores_ask : 3 ≤ w.how → (write.Ask ≡ put_by w) × (ram ≡ area_by w ram addr byte)
+  pub stores_ask : 3 ≤ w.how → ((Err Ask) ≡ put_by w) × (ram ≡ area_by w ram addr byte)
   unfolding put_by area_by
-  stores_ask h = (sym (get_or-eq_default (write.Done ∷ write.Done ∷ write.Done ∷ []) write.Ask h), sym (get_or-eq_default (ram ∷ set ram (place_in w addr) byte ∷ set ram (place_in w addr) (byte % 16) ∷ []) ram h))
+  stores_ask h = (sym (get_or-eq_default ((Ok tt) ∷ (Ok tt) ∷ (Ok tt) ∷ []) (Err Ask) h), sym (get_or-eq_default (ram ∷ set ram (place_in w addr) byte ∷ set ram (place_in w addr) (byte % 16) ∷ []) ram h))
 
-  pub sees_ask : 3 ≤ w.how → read.Ask ≡ ram_seen w ram addr
+  pub sees_ask : 3 ≤ w.how → Err Ask ≡ ram_seen w ram addr
   unfolding ram_seen
   sees_ask h =
       sym
       (get_or-eq_default
-      (Byte 0xFF ∷ Byte (get_or ram (place_in w addr) 0xFF) ∷ Byte (0xF0 + get_or ram (place_in w addr) 0xFF % 16) ∷ []) read.Ask h)
+      (Ok 0xFF ∷ Ok (get_or ram (place_in w addr) 0xFF) ∷ Ok (0xF0 + get_or ram (place_in w addr) 0xFF % 16) ∷ []) (Err Ask) h)

@@ -1,6 +1,7 @@
 -- What the windows promise: through them every address reads and writes as it does by the state, but where a clock register stands
 -- in the RAM window; and they stay where they are until a register is written or a save is read. `seen_of`, `put_of` and `area_after` are
 -- what `windows::read` and `write` answer, `windows_of` what `windows::of` gives for a fit cartridge.
+use Rattle.std.specs.Prelude.{Ok, Err, Some, None, Result, Option}
 use mathlib.Core.Bool.{Bool, true, false, not}
 use mathlib.Core.List.{List, [], ◌∷◌}
 use mathlib.Core.Path.{◌≡◌, refl, sym, ap, ◌∙◌}
@@ -14,12 +15,9 @@ use Rattle.facts.specs.Banking.{place_of}
 use Rattle.facts.proofs.ChoiceLaws.{both_true, both_false, both_parts, pick_has}
 use Rattle.facts.specs.Refusals.{no, first_no}
 use Rattle.banking.specs.Banks.{rom_place}
-use Rattle.banking.specs.declared.RamAt.{RamAt}
 use Rattle.clock.specs.Access.{written_of}
 use Rattle.clock.specs.Ticking.{ticks}
 use Rattle.clock.specs.declared.Clock.{Clock}
-use Rattle.clock.specs.declared.Written.{Written}
-use Rattle.clock.specs.declared.Written.TheVariants as written-clock
 use Rattle.mbc3.specs.Registers as mbc3
 use Rattle.mbc3.specs.Registers.{selectable}
 use Rattle.mbc3.specs.declared.Mbc3 as state
@@ -37,21 +35,18 @@ use Rattle.cartridge.specs.Fit.{fit_cart, area_of}
 use Rattle.cartridge.specs.With.{with_mapper}
 use Rattle.cartridge.specs.declared.Cartridge.{Cartridge}
 use Rattle.access.specs.Verdict.{in_ram}
-use Rattle.access.specs.declared.Verdict.TheVariants as verdict
 use Rattle.access.specs.declared.BusRefusal.{BusRefusal}
 use Rattle.access.specs.declared.BusRefusal.TheVariants.{Unfit, WrongLength, BadAddress, BadSelection}
 use Rattle.access.proofs.Laws.{by_tests, rom_window, above_rom, ram_window, below_ram, above_ram}
+use Rattle.access.specs.declared.Target.TheVariants.{Ram}
 use Rattle.bus.specs.Bus as bus
 use Rattle.bus.specs.Run.{Ready}
-use Rattle.bus.specs.declared.ReadAnswer.{ReadAnswer}
-use Rattle.bus.specs.declared.ReadAnswer.TheVariants as answer
-use Rattle.bus.specs.declared.WriteAnswer.TheVariants as written
 use Rattle.windows.specs.Windows.{by_way, rom_at, ram_at, windows_by, windows_of, asks_of}
 use Rattle.windows.specs.Through.{seen_of, from_read, put_of, area_after}
-use Rattle.windows.specs.declared.Seen.TheVariants as seen
-use Rattle.windows.specs.declared.Put.TheVariants as put
 use Rattle.windows.proofs.Laws as laws
 use Rattle.windows.proofs.Moving.{way_moves, way_seen, way_stored, way_put, mapper_stays}
+use Rattle.windows.specs.declared.Miss.TheVariants.{Ask}
+use Rattle.windows.specs.declared.Miss.TheVariants as miss
 
 -- ---- what the bus answers, by the window
 
@@ -59,20 +54,20 @@ lent_both : (c : Cartridge) (rom ram : List ℕ) → Ready rom (record { cart = 
 lent_both c rom ram l = both_true (eq-eqb _ _ l.image) (eq-eqb _ _ l.area)
 
 module _ (c : Cartridge) (rom ram : List ℕ) (addr : ℕ) (l : Ready rom (record { cart = c; area = ram })) where
-  bus_rom : addr < 0x8000 → bus.read_of c rom ram addr ≡ answer.Byte (bus.rom_byte c rom addr)
+  bus_rom : addr < 0x8000 → bus.read_of c rom ram addr ≡ Ok (bus.rom_byte c rom addr)
   unfolding bus.read_of bus.read_verdict
   bus_rom h =
       ap (bus.read_by c rom ram addr)
       (sym (by_tests c _ addr false l.fit (lent_both c rom ram l) (rom_window addr h) refl refl))
 
   bus_ram : 0xA000 ≤ addr → addr < 0xC000
-      → bus.read_of c rom ram addr ≡ answer.Byte (window.read_of c.mapper c.size ram addr)
+      → bus.read_of c rom ram addr ≡ Ok (window.read_of c.mapper c.size ram addr)
   unfolding bus.read_of bus.read_verdict
   bus_ram g h =
       ap (bus.read_by c rom ram addr)
       (sym (by_tests c _ addr false l.fit (lent_both c rom ram l) (above_rom addr (omega arith)) (ram_window addr g h) refl))
 
-  bus_outside : 0x8000 ≤ addr → in_ram addr ≡ false → bus.read_of c rom ram addr ≡ answer.Refuse BadAddress
+  bus_outside : 0x8000 ≤ addr → in_ram addr ≡ false → bus.read_of c rom ram addr ≡ Err BadAddress
   unfolding bus.read_of bus.read_verdict
   bus_outside g h =
       ap (bus.read_by c rom ram addr)
@@ -100,20 +95,20 @@ rom_seen banks m addr = go (ltb addr 0x4000)
 module _ (c : Cartridge) (rom ram : List ℕ) (addr : ℕ) (l : Ready rom (record { cart = c; area = ram })) where
   -- the answer that is promised, by whether the address is in the RAM window
   abbrev Sees : Type 0
-  Sees = seen_of (windows_of c) rom ram addr ≡ pick (both (in_ram addr) (asks_of c)) seen.Ask (from_read (bus.read_of c rom ram addr))
+  Sees = seen_of (windows_of c) rom ram addr ≡ pick (both (in_ram addr) (asks_of c)) (Err Ask) (from_read (bus.read_of c rom ram addr))
 
-  by_answer : {inside : Bool} {a : ReadAnswer} → in_ram addr ≡ inside → bus.read_of c rom ram addr ≡ a
-      → seen_of (windows_of c) rom ram addr ≡ pick (both inside (asks_of c)) seen.Ask (from_read a) → Sees
+  by_answer : {inside : Bool} {a : Result ℕ BusRefusal} → in_ram addr ≡ inside → bus.read_of c rom ram addr ≡ a
+      → seen_of (windows_of c) rom ram addr ≡ pick (both inside (asks_of c)) (Err Ask) (from_read a) → Sees
   by_answer {a = a} p q e =
       e
-      ∙ ap (λ (b : Bool). pick (both b (asks_of c)) seen.Ask (from_read a)) (sym p)
-      ∙ ap (λ x. pick (both (in_ram addr) (asks_of c)) seen.Ask (from_read x)) (sym q)
+      ∙ ap (λ (b : Bool). pick (both b (asks_of c)) (Err Ask) (from_read a)) (sym p)
+      ∙ ap (λ x. pick (both (in_ram addr) (asks_of c)) (Err Ask) (from_read x)) (sym q)
 
   sees_rom : addr < 0x8000 → Sees
   unfolding windows_by
   sees_rom h =
       by_answer (below_ram addr (omega arith)) (bus_rom c rom ram addr l h)
-      (sym (laws.seen_rom (windows_of c) rom ram addr h) ∙ ap (λ (k : ℕ). seen.Byte (byte_at rom k)) (rom_seen c.banks c.mapper addr))
+      (sym (laws.seen_rom (windows_of c) rom ram addr h) ∙ ap (λ (k : ℕ). Ok (byte_at rom k)) (rom_seen c.banks c.mapper addr))
 
   sees_ram : 0xA000 ≤ addr → addr < 0xC000 → Sees
   unfolding windows_by ram_at window.read_of
@@ -123,12 +118,12 @@ module _ (c : Cartridge) (rom ram : List ℕ) (addr : ℕ) (l : Ready rom (recor
       (sym (laws.seen_ram (windows_of c) rom ram addr g h)
       ∙ way_seen (way_of c.mapper c.size 0xA000) (rom_at c.banks c.mapper 0) (rom_at c.banks c.mapper 0x4000) c.size addr ram
       (lent_within c.mapper c.size addr (sym moves) l.area)
-      ∙ ap (λ w. pick (asks_of c) seen.Ask (seen.Byte (window.read_by w c.size ram addr))) (sym moves))
+      ∙ ap (λ w. pick (asks_of c) (Err Ask) (Ok (window.read_by w c.size ram addr))) (sym moves))
 
   sees_outside : 0x8000 ≤ addr → in_ram addr ≡ false → Sees
   sees_outside g h = by_answer h (bus_outside c rom ram addr l g h) (sym (laws.seen_outside (windows_of c) rom ram addr g h))
 
-  pub window_read_lem : seen_of (windows_of c) rom ram addr ≡ pick (both (in_ram addr) (asks_of c)) seen.Ask (from_read (bus.read_of c rom ram addr))
+  pub window_read_lem : seen_of (windows_of c) rom ram addr ≡ pick (both (in_ram addr) (asks_of c)) (Err Ask) (from_read (bus.read_of c rom ram addr))
   window_read_lem = go (ltb addr 0x8000) (ltb addr 0xA000) (ltb addr 0xC000) refl refl refl
     where
       go : (a b d : Bool) → ltb addr 0x8000 ≡ a → ltb addr 0xA000 ≡ b → ltb addr 0xC000 ≡ d → Sees
@@ -138,10 +133,10 @@ module _ (c : Cartridge) (rom ram : List ℕ) (addr : ℕ) (l : Ready rom (recor
       go false false false p q r = sees_outside (ltb-false addr 0x8000 p) (above_ram addr (ltb-false addr 0xC000 r))
 
   -- what is not a byte is refused with 15
-  pub only_15 : (w : BusRefusal) → bus.read_of c rom ram addr ≡ answer.Refuse w → w ≡ BadAddress
+  pub only_15 : (w : BusRefusal) → bus.read_of c rom ram addr ≡ Err w → w ≡ BadAddress
   only_15 w refused = go (ltb addr 0x8000) (in_ram addr) refl refl
     where
-      no_byte : {b : ℕ} → bus.read_of c rom ram addr ≡ answer.Byte b → w ≡ BadAddress
+      no_byte : {b : ℕ} → bus.read_of c rom ram addr ≡ Ok b → w ≡ BadAddress
       no_byte e = let p = sym e ∙ refused in let z : ◌≡◌ {A = ℕ} 0 1 = cc in absurd (omega arith)
 
       go : (b d : Bool) → ltb addr 0x8000 ≡ b → in_ram addr ≡ d → w ≡ BadAddress
@@ -167,7 +162,7 @@ no_bad_selection (Mbc5 m) addr byte h = refl
 
 module _ (c : Cartridge) (ram : List ℕ) (addr byte : ℕ) (fit : fit_cart c ≡ true) (area : length ram ≡ area_of c) where
   judged : {r : Bool} → 0x8000 ≤ addr → in_ram addr ≡ r
-      → bus.write_verdict c ram addr byte ≡ pick r verdict.Ram (verdict.Refuse BadAddress)
+      → bus.write_verdict c ram addr byte ≡ pick r (Ok Ram) (Err BadAddress)
   unfolding bus.write_verdict
   judged {r = r} g h =
       sym
@@ -175,15 +170,15 @@ module _ (c : Cartridge) (ram : List ℕ) (addr byte : ℕ) (fit : fit_cart c �
       ∙ go r
     where
       go : (b : Bool)
-          → first_no verdict.Refuse
+          → first_no Err
           (no false Unfit ∷ no false WrongLength ∷ no (not b) BadAddress ∷ no false BadSelection ∷ [])
-          verdict.Ram
-          ≡ pick b verdict.Ram (verdict.Refuse BadAddress)
+          (Ok Ram)
+          ≡ pick b (Ok Ram) (Err BadAddress)
       go true = refl
       go false = refl
 
   pub window_write_lem : 0xA000 ≤ addr → addr < 0xC000
-      → (put_of (windows_of c) addr ≡ pick (asks_of c) put.Ask put.Done)
+      → (put_of (windows_of c) addr ≡ pick (asks_of c) (Err Ask) (Ok tt))
       × (area_after (windows_of c) ram addr byte ≡ bus.area_after c ram addr byte)
   unfolding windows_by ram_at bus.area_after window.area_after
   window_write_lem g h =
@@ -197,26 +192,26 @@ module _ (c : Cartridge) (ram : List ℕ) (addr byte : ℕ) (fit : fit_cart c �
             ∙ ap (bus.area_by c ram addr byte) (sym (judged (omega arith) (ram_window addr g h))),
       )
 
-  pub unasked_write_keeps : 0xA000 ≤ addr → addr < 0xC000 → asks_of c ≡ false → bus.write_of c ram addr byte ≡ written.Done c
+  pub unasked_write_keeps : 0xA000 ≤ addr → addr < 0xC000 → asks_of c ≡ false → bus.write_of c ram addr byte ≡ Ok c
   unfolding bus.write_of
   unasked_write_keeps g h e =
       ap (bus.write_by c addr byte) (judged (omega arith) (ram_window addr g h))
-      ∙ ap (λ m. written.Done (with_mapper c m)) (mapper_stays c.mapper c.size addr byte e)
+      ∙ ap (λ m. Ok (with_mapper c m)) (mapper_stays c.mapper c.size addr byte e)
 
   pub outside_is_refused : 0x8000 ≤ addr → in_ram addr ≡ false
-      → (put_of (windows_of c) addr ≡ put.BadAddress) × (bus.write_of c ram addr byte ≡ written.Refuse BadAddress)
+      → (put_of (windows_of c) addr ≡ Err miss.BadAddress) × (bus.write_of c ram addr byte ≡ Err BadAddress)
   unfolding bus.write_of
   outside_is_refused g h =
       (sym (laws.put_outside (windows_of c) ram addr byte g h).0, ap (bus.write_by c addr byte) (judged g h))
 
 -- a register is for the state
 pub register_is_asked : (c : Cartridge) (ram : List ℕ) (addr byte : ℕ) → addr < 0x8000
-    → (put.Ask ≡ put_of (windows_of c) addr) × (ram ≡ area_after (windows_of c) ram addr byte)
+    → ((Err Ask) ≡ put_of (windows_of c) addr) × (ram ≡ area_after (windows_of c) ram addr byte)
 register_is_asked c ram addr byte = laws.put_low (windows_of c) ram addr byte
 
 -- ---- they stay where they are but for a write below 0x8000 and a save that is read
 
-way_by_clock : (b : Bool) (p : RamAt) (m : state.Mbc3) (k : Clock) (size : ℕ)
+way_by_clock : (b : Bool) (p : Option ℕ) (m : state.Mbc3) (k : Clock) (size : ℕ)
     → by_way (pick b (Bytes p) (Timer (mbc3.with_clock m k))) size ≡ by_way (pick b (Bytes p) (Timer m)) size
 way_by_clock true p m k size = refl
 way_by_clock false p m k size = refl
@@ -236,11 +231,11 @@ module _ (banks size : ℕ) where
       (way_by_clock m.memory (mbc3.ram_at m size 0xA000) m k size)
 
   -- a write to the RAM window may change a clock register, and no window;
-  written_stays : (m : state.Mbc3) (w : Written) → windows_by banks size (Mbc3 (clock_or m w)) ≡ windows_by banks size (Mbc3 m)
-  written_stays m (written-clock.To k) = clock_moves_none m k
-  written_stays m written-clock.NoRegister = refl
+  written_stays : (m : state.Mbc3) (w : Option Clock) → windows_by banks size (Mbc3 (clock_or m w)) ≡ windows_by banks size (Mbc3 m)
+  written_stays m (Some k) = clock_moves_none m k
+  written_stays m None = refl
 
-  selected_stays : (b : Bool) (m : state.Mbc3) (p : RamAt) (byte : ℕ)
+  selected_stays : (b : Bool) (m : state.Mbc3) (p : Option ℕ) (byte : ℕ)
       → windows_by banks size (window.mapper_by (pick b (Bytes p) (Timer m)) (Mbc3 m) byte) ≡ windows_by banks size (Mbc3 m)
   unfolding window_written
   selected_stays true m p byte = refl

@@ -1,9 +1,7 @@
 -- Where the windows 0x0000, 0x4000 and 0xA000 of a cartridge stand: the place that each shows first, and how the last is mapped.
-use Rattle.std.specs.Prelude.{Bool, true, false, ◌≡◌, ℕ, ◌<◌, ◌≤◌, eqb}
+use Rattle.std.specs.Prelude.{Bool, true, false, ◌≡◌, ℕ, ◌<◌, ◌≤◌, eqb, Some, None, Option}
 use Rattle.facts.specs.Choice.{pick}
 use Rattle.banking.specs.Banks.{Inside, rom_place}
-use Rattle.banking.specs.declared.RamAt.{RamAt}
-use Rattle.banking.specs.declared.RamAt.TheVariants.{At, NotMapped}
 use Rattle.mbc2.specs.declared.Mbc2.{Mbc2}
 use Rattle.mbc3.specs.declared.Mbc3.{Mbc3}
 use Rattle.timer.specs.ClockWindow.{on_clock}
@@ -16,8 +14,6 @@ use Rattle.cartridge.specs.Fit.{fit_cart}
 use Rattle.cartridge.specs.declared.Cartridge.{Cartridge}
 use Rattle.windows.specs.declared.Windows.{Windows}
 use Rattle.windows.specs.declared.RamWindow.{RamWindow}
-use Rattle.windows.specs.declared.Asked.{Asked}
-use Rattle.windows.specs.declared.Asked.TheVariants.{To, Unfit}
 
 abbrev pub window : ℕ → ℕ → ℕ → RamWindow
 window ram mask how = record { ram = ram; mask = mask; how = how }
@@ -29,9 +25,9 @@ unmapped = window 0 0 0
 abbrev pub mask_of : ℕ → ℕ
 mask_of size = pick (eqb size 0x800) 0x7FF 0x1FFF
 
-abbrev pub bytes_at : RamAt → ℕ → RamWindow
-bytes_at (At i) size = window i (mask_of size) 1
-bytes_at NotMapped size = unmapped
+abbrev pub bytes_at : Option ℕ → ℕ → RamWindow
+bytes_at (Some i) size = window i (mask_of size) 1
+bytes_at None size = unmapped
 
 -- Player 9: "half-bytes, with the mask 0x1FF, the place being the header's RAM size"
 abbrev pub halves_at : Mbc2 → ℕ → RamWindow
@@ -74,8 +70,8 @@ pub record Stands (banks size : ℕ) (m : Mapper) : Type 0 where
 abbrev pub windows_of : Cartridge → Windows
 windows_of c = windows_by c.banks c.size c.mapper
 
-unfoldable pub ask_of : Cartridge → Asked
-ask_of c = pick (fit_cart c) (To (windows_of c)) Unfit
+unfoldable pub ask_of : Cartridge → Option Windows
+ask_of c = pick (fit_cart c) (Some (windows_of c)) None
 
 -- Player 9: "a clock register, where Bus 19 shows one": then the state must be asked
 abbrev pub asks_by : Way → Bool

@@ -8,7 +8,6 @@ ghost use Rattle.image.specs.Image.{byte_at};
 ghost use Rattle.windows.specs.Windows.{mask_of, unmapped, bytes_at, halves_at, asks, Small, by_way, ram_at, windows_by, Stands, ask_of};
 ghost use Rattle.windows.specs.Through.{place_in, ram_seen, rom_start, seen_of, put_by, area_by, put_of, area_after};
 
-use banking::RamAt;
 use cartridge::Cartridge;
 use mapper::Mapper;
 use mbc2::Mbc2;
@@ -26,7 +25,7 @@ pub struct Windows {
     pub how: u32,
 }
 
-// How the RAM window is mapped. Any greater number is ASK too.
+// How the RAM window is mapped. Any greater number is ASK too: C keeps the five numbers and may hand in others, so no enum holds them.
 pub const NOT_MAPPED: u32 = 0;
 
 pub const BYTES: u32 = 1;
@@ -43,23 +42,9 @@ pub struct RamWindow {
     pub how: u32,
 }
 
-#[derive(Drop)]
-pub enum Asked {
-    To(Windows),
-    Unfit,
-}
-
-// What a read through windows gives: a byte, or that the address is outside, or that the state must be asked.
-#[derive(Drop)]
-pub enum Seen {
-    Byte(u8),
-    BadAddress,
-    Ask,
-}
-
-#[derive(Drop)]
-pub enum Put {
-    Done,
+// Why windows have no answer: the address is outside, or the state must be asked.
+#[derive(Clone, Copy, Debug, PartialEq, Eq)]
+pub enum Miss {
     BadAddress,
     Ask,
 }
@@ -81,17 +66,17 @@ fn mask_of(size: usize) -> u32
     if size == 0x800 { 0x7FF } else { 0x1FFF }
 }
 
-pub fn bytes_at(place: RamAt, size: usize) -> RamWindow
+pub fn bytes_at(place: Option<usize>, size: usize) -> RamWindow
     requires { Inside place 0x20200 }
     ensures { result ≡ bytes_at place size }
 {
     match place {
-        RamAt::At(i) => RamWindow {
+        Some(i) => RamWindow {
             ram: i as u32,
             mask: mask_of(size),
             how: BYTES,
         },
-        RamAt::NotMapped => not_mapped(),
+        None => not_mapped(),
     }
 }
 
@@ -165,15 +150,15 @@ fn standing(banks: u16, size: usize, mapper: Mapper) -> Windows
     }
 }
 
-// The windows of a cartridge as they stand now.
-pub fn of(cart: Cartridge) -> Asked
+// The windows of a cartridge as they stand now, if it is fit.
+pub fn of(cart: Cartridge) -> Option<Windows>
     ensures { result ≡ ask_of cart }
 {
     if cart.fit() {
         let mapper = cart.mapper;
-        return Asked::To(standing(cart.banks, cart.size, mapper));
+        return Some(standing(cart.banks, cart.size, mapper));
     }
-    Asked::Unfit
+    None
 }
 
 // The place in the RAM area of an address of the window. Two numbers of 32 bits cannot wrap.
@@ -190,15 +175,15 @@ fn byte_in(ram: &[u8], at: usize) -> u8
     if at < ram.len() { ram[at] } else { 0xFF }
 }
 
-fn ram_seen(w: Windows, ram: &[u8], addr: u16) -> Seen
+fn ram_seen(w: Windows, ram: &[u8], addr: u16) -> Result<u8, Miss>
     ensures { result ≡ ram_seen w ram.now addr }
 {
     let how = w.how;
     match how {
-        0 => Seen::Byte(0xFF),
-        1 => Seen::Byte(byte_in(ram, place_in(w, addr))),
-        2 => Seen::Byte(byte_in(ram, place_in(w, addr)) | 0xF0),
-        _ => Seen::Ask,
+        0 => Ok(0xFF),
+        1 => Ok(byte_in(ram, place_in(w, addr))),
+        2 => Ok(byte_in(ram, place_in(w, addr)) | 0xF0),
+        _ => Err(Miss::Ask),
     }
 }
 
@@ -217,13 +202,13 @@ pub fn rom_byte(rom: &[u8], start: u32, addr: u16) -> u8
 }
 
 // What an address reads through windows, whatever numbers they are.
-pub fn read(w: Windows, rom: &[u8], ram: &[u8], addr: u16) -> Seen
+pub fn read(w: Windows, rom: &[u8], ram: &[u8], addr: u16) -> Result<u8, Miss>
     ensures { result ≡ seen_of w rom.now ram.now addr }
 {
     match addr {
-        0x0000..=0x7FFF => Seen::Byte(rom_byte(rom, rom_start(w, addr), addr)),
+        0x0000..=0x7FFF => Ok(rom_byte(rom, rom_start(w, addr), addr)),
         0xA000..=0xBFFF => ram_seen(w, ram, addr),
-        _ => Seen::BadAddress,
+        _ => Err(Miss::BadAddress),
     }
 }
 
@@ -236,33 +221,33 @@ fn set_in(ram: &mut [u8], at: usize, byte: u8)
     }
 }
 
-fn ram_put(w: Windows, ram: &mut [u8], addr: u16, byte: u8) -> Put
+fn ram_put(w: Windows, ram: &mut [u8], addr: u16, byte: u8) -> Result<(), Miss>
     ensures value { result ≡ put_by w }
     ensures ram_after { ram.new ≡ area_by w ram.old addr byte }
 {
     let how = w.how;
     match how {
-        0 => Put::Done,
+        0 => Ok(()),
         1 => {
             set_in(ram, place_in(w, addr), byte);
-            Put::Done
+            Ok(())
         }
         2 => {
             set_in(ram, place_in(w, addr), byte & 0xF);
-            Put::Done
+            Ok(())
         }
-        _ => Put::Ask,
+        _ => Err(Miss::Ask),
     }
 }
 
 // A byte written to an address through windows, whatever numbers they are. A register is for the state.
-pub fn write(w: Windows, ram: &mut [u8], addr: u16, byte: u8) -> Put
+pub fn write(w: Windows, ram: &mut [u8], addr: u16, byte: u8) -> Result<(), Miss>
     ensures value { result ≡ put_of w addr }
     ensures ram_after { ram.new ≡ area_after w ram.old addr byte }
 {
     match addr {
-        0x0000..=0x7FFF => Put::Ask,
+        0x0000..=0x7FFF => Err(Miss::Ask),
         0xA000..=0xBFFF => ram_put(w, ram, addr, byte),
-        _ => Put::BadAddress,
+        _ => Err(Miss::BadAddress),
     }
 }

@@ -2,31 +2,25 @@
 //! be asked. Both ways in must write the same lines: the cartridge with its windows, and the calls.
 mod common;
 #[rustfmt::skip]
+#[path = "../../../crates/bus_vectors/src/cases.rt"]
+mod cases;
+#[rustfmt::skip]
 #[path = "../../../crates/bus_vectors/src/directed.rt"]
 mod directed;
 
+use common::build::Case;
 use common::lines::{compare, each, heading, number, sum};
+use common::steps::Step;
 use common::{build, draw, images, Bus, Lent};
 use imfelkuz::Cartridge;
 
-// A case as in crates/bus_vectors: the RAM area's length in units of 512 bytes, the image's length, and its type byte, ROM code and
-// RAM code.
-const NO_MAPPER: &[u64] = &[0x0000_008000_00_00_00, 0x0004_007001_08_00_01, 0x0010_008000_09_00_02];
-const MBC1: &[u64] =
-    &[0x0040_200000_03_06_03, 0x0004_010000_02_00_01, 0x0040_100000_03_05_03, 0x0010_100000_02_05_02, 0x0000_0FD00B_01_05_00];
-const MBC2: &[u64] = &[0x0011_040000_06_03_02, 0x0001_01D777_05_02_00];
-const MBC3: &[u64] =
-    &[0x0040_200000_10_06_03, 0x0000_3FFFFF_0F_07_00, 0x0010_400000_13_07_02, 0x0004_080000_12_04_01, 0x0000_020000_11_02_00];
-const MBC5: &[u64] = &[0x0100_800000_1B_08_04, 0x0080_7FC001_1E_08_05, 0x0004_080000_1A_04_01, 0x0000_008000_1C_00_00];
-const REFUSED: &[u64] = &[0x0040_080000_10_04_03, 0x0010_040000_06_03_02, 0x003F_200000_10_06_03, 0x0041_200000_10_06_03];
-
-fn played<B: Bus>(out: &mut String, image: &[u8], area: usize, codes: u32, table: &[u32]) {
-    match B::mount(image, area, 7) {
+fn played<B: Bus>(out: &mut String, image: &[u8], case: Case, table: &[Step]) {
+    match B::mount(image, case.area, 7) {
         Ok(mut cart) => {
-            heading(out, image, codes);
+            heading(out, image, case.type_byte);
             each(out, &mut cart, &directed::START);
             each(out, &mut cart, table);
-            each(out, &mut cart, &draw::codes(codes));
+            each(out, &mut cart, &draw::steps(case.seed()));
             number(out, 'S', sum(cart.ram()));
         }
         Err(why) => number(out, 'N', why.into()),
@@ -36,20 +30,18 @@ fn played<B: Bus>(out: &mut String, image: &[u8], area: usize, codes: u32, table
 fn lines<B: Bus>() -> String {
     let mut out = String::new();
     let mut image = images::recipe();
-    let groups: [(&[u64], &[u32]); 6] = [
-        (NO_MAPPER, &directed::NO_MAPPER),
-        (MBC1, &directed::MBC1),
-        (MBC2, &directed::MBC2),
-        (MBC3, &directed::MBC3),
-        (MBC5, &directed::MBC5),
-        (REFUSED, &directed::REFUSED),
+    let groups: [(&[Case], &[Step]); 6] = [
+        (&cases::NO_MAPPER, &directed::NO_MAPPER),
+        (&cases::MBC1, &directed::MBC1),
+        (&cases::MBC2, &directed::MBC2),
+        (&cases::MBC3, &directed::MBC3),
+        (&cases::MBC5, &directed::MBC5),
+        (&cases::REFUSED, &directed::REFUSED),
     ];
     for (cases, table) in groups {
         for case in cases {
             build::header(&mut image, *case);
-            let len = (case / 0x1000000 % 0x1000000) as usize;
-            let area = (case / 0x1_0000_0000_0000 * 512) as usize;
-            played::<B>(&mut out, &image[..len], area, (case % 0x1000000) as u32, table);
+            played::<B>(&mut out, &image[..case.length], *case, table);
         }
     }
     out

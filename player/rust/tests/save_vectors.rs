@@ -5,8 +5,10 @@ mod common;
 #[path = "../../../crates/save_vectors/src/rows.rt"]
 mod rows;
 
+use common::build::Case;
 use common::lines::compare;
-use common::saves::{show, Case};
+use common::saves::jobs::{Job, Moment};
+use common::saves::{show, Lending};
 use common::{build, images, Bus, Lent};
 use imfelkuz::Cartridge;
 use std::cell::RefCell;
@@ -15,13 +17,10 @@ fn lines<B: Bus>() -> String {
     let mut out = String::new();
     let mut image = images::recipe();
     let left = RefCell::new(vec![0; 0x20200]);
-    for row in rows::ROWS.chunks(3) {
-        let (case, what, n) = (row[0], row[1], row[2]);
+    for (case, job) in rows::ROWS {
         build::header(&mut image, case);
-        let len = (case / 0x1000000 % 0x1000000) as usize;
-        let area = (case / 0x1_0000_0000_0000 * 512) as usize;
-        let case = Case { image: &image[..len], area, codes: (case % 0x1000000) as u32, left: &left };
-        show::<B>(&mut out, &case, what, n);
+        let lending = Lending { image: &image[..case.length], area: case.area, type_byte: case.type_byte, left: &left };
+        show::<B>(&mut out, &lending, job);
     }
     out
 }

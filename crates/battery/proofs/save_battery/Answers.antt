@@ -9,17 +9,17 @@ use Rattle.battery.proofs.save_battery.Goals as goal
 
 pub write-requires : goal.write-requires
 write-requires c =
-    let z = ap battery_size (sym c.clock_in.ensures ∙ c.in-Clock.is) in
+    let z = ap battery_size (sym c.clock_in.ensures ∙ c.in-Some.is) in
     let p = c.requires in
     omega arith
 
-pub returns-in-Clock : goal.returns-in-Clock
+pub returns-in-Some : goal.returns-in-Some
 unfolding put_block
-returns-in-Clock c =
+returns-in-Some c =
     c.write.ensures
-    ∙ ap (λ (b : Block). put_block b c.args.room.now) c.new-block.ensures
-    ∙ put_by_lem c.args.m c.args.wall c.args.room.now c.clock_in.ensures c.in-Clock.is
+    ∙ ap (λ (b : Block). put_block b c.args.room.now) c.new.ensures
+    ∙ put_by_lem c.args.m c.args.wall c.args.room.now c.clock_in.ensures c.in-Some.is
 
-pub returns-in-Nothing : goal.returns-in-Nothing
-returns-in-Nothing c =
-    put_by_lem c.args.m c.args.wall c.args.room.now c.clock_in.ensures c.in-Nothing.is
+pub returns-in_default : goal.returns-in_default
+returns-in_default c =
+    put_by_lem c.args.m c.args.wall c.args.room.now c.clock_in.ensures c.in_default.is

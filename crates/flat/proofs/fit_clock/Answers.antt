@@ -4,5 +4,5 @@ use Rattle.flat.proofs.fit_clock.Goals as goal
 
 pub returns : goal.returns
 returns c =
-    clock_tested c.args.s.now c.read_u32.ensures c.fit_clock_registers-2.ensures c.fit_clock_registers.ensures
+    clock_tested c.args.s.now c.read.ensures c.fit_clock_registers-2.ensures c.fit_clock_registers.ensures
     c.both-frozen.ensures c.both.ensures

@@ -3,4 +3,4 @@ use Rattle.flat.proofs.fit_multicart.Goals as goal
 
 pub returns : goal.returns
 returns c =
-    simp (c.both.ensures, c.fit.ensures, c.mbc1_in.ensures, c.read_u16.ensures)
+    simp (c.both.ensures, c.fit.ensures, c.mbc1_in.ensures, c.read.ensures)

@@ -4,5 +4,5 @@ use Rattle.flat.proofs.fit_timed.Goals as goal
 
 pub returns : goal.returns
 returns c =
-    timed_tested c.args.s.now c.untimed_in.ensures c.fit.ensures c.read_u8.ensures c.fit_clock.ensures
+    timed_tested c.args.s.now c.untimed_in.ensures c.fit.ensures c.read.ensures c.fit_clock.ensures
     c.both-clock.ensures c.both.ensures

@@ -5,5 +5,5 @@ use Rattle.flat.proofs.fits.Goals as goal
 pub returns : goal.returns
 returns c =
     let a = c.args in
-    limits_tested a.s.now a.kind a.limits a.rest c.are_flags.ensures c.read_u16-banks.ensures c.read_u64-size.ensures
+    limits_tested a.s.now a.kind a.limits a.rest c.are_flags.ensures c.read-banks.ensures c.read-size.ensures
     c.is_beyond.ensures c.both-held.ensures c.both.ensures

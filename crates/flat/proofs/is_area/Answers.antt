@@ -16,9 +16,9 @@ unfolding mapper_at
 returns-then-kind-eq3 c =
     let a = c.args in
     of_kind (λ (m : Mapper). eqb a.len (area_of m (field_at 8 a.s.now 24))) a.s.now c.if-kind-eq3.true
-    (ap Mbc2 c.mbc2_in.ensures) (c.is_area.ensures ∙ ap (λ (z : ℕ). eqb a.len (z + 512)) c.read_u64-size.ensures)
+    (ap Mbc2 c.mbc2_in.ensures) (c.is_area.ensures ∙ ap (λ (z : ℕ). eqb a.len (z + 512)) c.read-size.ensures)
 
 pub returns : goal.returns
 returns c =
     let a = c.args in
-    ap (eqb a.len) (c.read_u64-size.ensures ∙ area_of_size a.s.now a.kind (field_at 8 a.s.now 24) c.if-kind-eq3.false)
+    ap (eqb a.len) (c.read-size.ensures ∙ area_of_size a.s.now a.kind (field_at 8 a.s.now 24) c.if-kind-eq3.false)

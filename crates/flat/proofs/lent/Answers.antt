@@ -3,4 +3,4 @@ use Rattle.flat.proofs.lent.Goals as goal
 
 pub returns : goal.returns
 returns c =
-    simp (c.both.ensures, c.is_area.ensures, c.read_u64-length.ensures)
+    simp (c.both.ensures, c.is_area.ensures, c.read-length.ensures)

@@ -18,12 +18,12 @@ bank_at-bank-requires c =
 
 pub rom_place-requires : goal.rom_place-requires
 rom_place-requires c =
-    omega (arith, c.read_u16-banks.ensures, fit_banks (cart_at c.args.s.now c.args.kind) c.requires.kind_value)
+    omega (arith, c.read-banks.ensures, fit_banks (cart_at c.args.s.now c.args.kind) c.requires.kind_value)
 
 pub returns : goal.returns
 returns c =
     let a = c.args in
     c.byte_at.ensures
     ∙ ap (byte_at a.image.now)
-    (c.rom_place.ensures ∙ ap (λ (n : ℕ). rom_place n c.bank_at-bank.result a.addr) c.read_u16-banks.ensures
+    (c.rom_place.ensures ∙ ap (λ (n : ℕ). rom_place n c.bank_at-bank.result a.addr) c.read-banks.ensures
     ∙ ap (λ (b : ℕ). rom_place (field_at 2 a.s.now 8) b a.addr) c.bank_at-bank.ensures)

@@ -8,19 +8,19 @@ use Rattle.flat_windows.proofs.of.Goals as goal
 pub returns-then-not-fit : goal.returns-then-not-fit
 returns-then-not-fit c =
     let a = c.args in
-    unfit_asked a.s.now c.read_u8-kind.ensures c.fit.ensures (ap not c.if-not-fit.true)
+    unfit_asked a.s.now c.read-kind.ensures c.fit.ensures (ap not c.if-not-fit.true)
 
 pub standing-requires : goal.standing-requires
 standing-requires c =
     let a = c.args in
     record {
       in_bounds = search rules;
-      stands = bytes_stand a.s.now c.read_u8-kind.ensures c.fit.ensures (ap not c.if-not-fit.false) c.read_u16-banks.ensures
-          c.read_u64-size.ensures;
+      stands = bytes_stand a.s.now c.read-kind.ensures c.fit.ensures (ap not c.if-not-fit.false) c.read-banks.ensures
+          c.read-size.ensures;
     }
 
 pub returns : goal.returns
 returns c =
     let a = c.args in
-    fit_asked a.s.now c.read_u8-kind.ensures c.fit.ensures (ap not c.if-not-fit.false) c.read_u16-banks.ensures
-    c.read_u64-size.ensures c.standing.ensures
+    fit_asked a.s.now c.read-kind.ensures c.fit.ensures (ap not c.if-not-fit.false) c.read-banks.ensures
+    c.read-size.ensures c.standing.ensures

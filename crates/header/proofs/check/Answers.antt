@@ -16,10 +16,10 @@ pub returns-then-not-is_utf8 : goal.returns-then-not-is_utf8
 returns-then-not-is_utf8 c =
     no_3 _ c.if-image-gt8388608.false c.logo_at.ensures (ap not c.if-not-logo_at.false) c.title.ensures.result_value c.is_utf8.ensures (ap not c.if-not-is_utf8.true)
 
-pub returns-in-Row : goal.returns-in-Row
-returns-in-Row c =
-    on_to_5 _ c.if-image-gt8388608.false c.logo_at.ensures (ap not c.if-not-logo_at.false) c.title.ensures.result_value c.is_utf8.ensures (ap not c.if-not-is_utf8.false) c.byte_at.ensures c.find.ensures c.in-Row.is c.check_sizes.ensures
+pub returns : goal.returns
+returns c =
+    on_to_5 _ c.if-image-gt8388608.false c.logo_at.ensures (ap not c.if-not-logo_at.false) c.title.ensures.result_value c.is_utf8.ensures (ap not c.if-not-is_utf8.false) c.byte_at.ensures c.find.ensures c.in-Some.is c.check_sizes.ensures
 
-pub returns-in-Unknown : goal.returns-in-Unknown
-returns-in-Unknown c =
-    no_4 _ c.if-image-gt8388608.false c.logo_at.ensures (ap not c.if-not-logo_at.false) c.title.ensures.result_value c.is_utf8.ensures (ap not c.if-not-is_utf8.false) c.byte_at.ensures c.find.ensures c.in-Unknown.is
+pub returns-in_default : goal.returns-in_default
+returns-in_default c =
+    no_4 _ c.if-image-gt8388608.false c.logo_at.ensures (ap not c.if-not-logo_at.false) c.title.ensures.result_value c.is_utf8.ensures (ap not c.if-not-is_utf8.false) c.byte_at.ensures c.find.ensures c.in_default.is

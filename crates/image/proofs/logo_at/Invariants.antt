@@ -1,10 +1,7 @@
 -- `image::logo_at` meets its contract: the bytes before i agree.
-use Rattle.std.proofs.Common.{◌≡◌, ◌+◌, ◌-◌, ◌≤◌, drop}
+use Rattle.std.proofs.Common.{◌≡◌, ◌+◌, drop}
 use Rattle.image.specs.Image.{logo, stands_at, logo_at}
 use Rattle.image.proofs.logo_at.Given as goal
 
 abbrev pub invariant-loop-i : goal.invariant-loop-i
-invariant-loop-i l = (l.i ≤ 48) × (logo_at l.image l.at ≡ stands_at (drop l.i logo) l.image (l.at + l.i))
-
-abbrev pub decreases-loop-i : goal.decreases-loop-i
-decreases-loop-i l = 48 - l.i
+invariant-loop-i l = logo_at l.image l.at ≡ stands_at (drop l.i logo) l.image (l.at + l.i)

@@ -1,17 +1,18 @@
 -- `mount::ask_area` meets its contract: by the header's verdict.
+use Rattle.facts.proofs.Handed.{handed_on}
+use Rattle.std.specs.Prelude.{Ok}
 use mathlib.Core.Path.{sym, ap, ◌∙◌}
-use Rattle.mount.specs.declared.Area.TheVariants.{Bytes}
 use Rattle.mount.proofs.Laws.{area_small, asked_by_lem}
 use Rattle.mount.proofs.ask_area.Goals as goal
 
+pub returns-in_err-facts : goal.returns-in_err-facts
+returns-in_err-facts c =
+    handed_on _ c.from_residual.ensures ∙ asked_by_lem c.args.image.now c.check.ensures c.in_err-facts.was
+
 pub area_of-requires : goal.area_of-requires
 area_of-requires c =
-    area_small c.args.image.now (sym c.check.ensures ∙ c.in-Accept.is)
+    area_small c.args.image.now (sym c.check.ensures ∙ c.in_ok-facts.was)
 
-pub returns-in-Accept : goal.returns-in-Accept
-returns-in-Accept c =
-    ap Bytes c.area_of.ensures ∙ asked_by_lem c.args.image.now c.check.ensures c.in-Accept.is
-
-pub returns-in-Refuse : goal.returns-in-Refuse
-returns-in-Refuse c =
-    asked_by_lem c.args.image.now c.check.ensures c.in-Refuse.is
+pub returns : goal.returns
+returns c =
+    ap Ok c.area_of.ensures ∙ asked_by_lem c.args.image.now c.check.ensures c.in_ok-facts.was

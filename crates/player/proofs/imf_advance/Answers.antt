@@ -3,14 +3,14 @@ use mathlib.Core.Path.{◌∙◌}
 use Rattle.player.proofs.Laws.{advance_number_lem}
 use Rattle.player.proofs.imf_advance.Goals as goal
 
-pub returns-in-Done : goal.returns-in-Done
-returns-in-Done c =
+pub returns-in-Ok : goal.returns-in-Ok
+returns-in-Ok c =
     let a = c.args in
     let d = c.advance.ensures in
-    record { value = advance_number_lem a.state.now a.n d.value c.in-Done.is; state_after = d.s_after }
+    record { value = advance_number_lem a.state.now a.n d.value c.in-Ok.is; state_after = d.s_after }
 
-pub returns-in-Refuse : goal.returns-in-Refuse
-returns-in-Refuse c =
+pub returns-in-Err : goal.returns-in-Err
+returns-in-Err c =
     let a = c.args in
     let d = c.advance.ensures in
-    record { value = c.number.ensures ∙ advance_number_lem a.state.now a.n d.value c.in-Refuse.is; state_after = d.s_after }
+    record { value = c.number.ensures ∙ advance_number_lem a.state.now a.n d.value c.in-Err.is; state_after = d.s_after }

@@ -6,23 +6,23 @@ use Rattle.player.proofs.imf_header.Goals as goal
 
 pub facts_of-requires : goal.facts_of-requires
 facts_of-requires c =
-    accepted_small c.args.image.now c.check.ensures c.in-Accept.is
+    accepted_small c.args.image.now c.check.ensures c.in-Ok.is
 
-pub returns-in-Accept : goal.returns-in-Accept
+pub returns-in-Ok : goal.returns-in-Ok
 unfolding header_of facts_after
-returns-in-Accept c =
+returns-in-Ok c =
     let a = c.args in
-    let g = sym c.in-Accept.is ∙ c.check.ensures in
+    let g = sym c.in-Ok.is ∙ c.check.ensures in
     record {
       value = ap header_by g;
       facts_after = c.facts_of.ensures ∙ ap (facts_by a.facts.now) g;
     }
 
-pub returns-in-Refuse : goal.returns-in-Refuse
+pub returns-in-Err : goal.returns-in-Err
 unfolding header_of facts_after
-returns-in-Refuse c =
+returns-in-Err c =
     let a = c.args in
-    let g = sym c.in-Refuse.is ∙ c.check.ensures in
+    let g = sym c.in-Err.is ∙ c.check.ensures in
     record {
       value = c.number.ensures ∙ ap header_by g;
       facts_after = ap (facts_by a.facts.now) g;

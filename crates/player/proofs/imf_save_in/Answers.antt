@@ -6,15 +6,15 @@ use Rattle.player.specs.Save.{loaded_number, loaded_state, loaded_clock, load_of
 use Rattle.player.proofs.Laws.{on_cartridge, on_none}
 use Rattle.player.proofs.imf_save_in.Goals as goal
 
-pub returns-in-To : goal.returns-in-To
+pub returns-in-Some : goal.returns-in-Some
 unfolding load_of state_loaded area_loaded clock_loaded
-returns-in-To c =
+returns-in-Some c =
     let a = c.args in
     let s = a.state.now in
     let r = a.ram.now in
     let b = a.save.now in
     let e = c.decode.ensures in
-    let g = c.in-To.is in
+    let g = c.in-Some.is in
     let w = c.load.ensures in
     let t = c.take_loaded.ensures in
     record {
@@ -27,15 +27,15 @@ returns-in-To c =
           ∙ on_cartridge (λ k. loaded_clock a.clock.now (below.load_of k (length r) b a.wall)) a.clock.now s e g;
     }
 
-pub returns-in-NoState : goal.returns-in-NoState
+pub returns-in-None : goal.returns-in-None
 unfolding load_of state_loaded area_loaded clock_loaded
-returns-in-NoState c =
+returns-in-None c =
     let a = c.args in
     let s = a.state.now in
     let r = a.ram.now in
     let b = a.save.now in
     let e = c.decode.ensures in
-    let g = c.in-NoState.is in
+    let g = c.in-None.is in
     record {
       value = on_none (λ k. loaded_number (below.load_of k (length r) b a.wall)) 13 s e g;
       state_after = on_none (λ k. loaded_state s (below.load_of k (length r) b a.wall)) s s e g;

@@ -3,21 +3,21 @@ use mathlib.Core.Path.{◌∙◌}
 use Rattle.player.proofs.Laws.{write_number_lem}
 use Rattle.player.proofs.imf_write.Goals as goal
 
-pub returns-in-Done : goal.returns-in-Done
-returns-in-Done c =
+pub returns-in-Ok : goal.returns-in-Ok
+returns-in-Ok c =
     let a = c.args in
     record {
-      value = write_number_lem a.state.now a.ram.now a.addr a.byte c.write.ensures.value c.in-Done.is;
+      value = write_number_lem a.state.now a.ram.now a.addr a.byte c.write.ensures.value c.in-Ok.is;
       state_after = c.write.ensures.s_after;
       ram_after = c.write.ensures.ram_after;
     }
 
-pub returns-in-Refuse : goal.returns-in-Refuse
-returns-in-Refuse c =
+pub returns-in-Err : goal.returns-in-Err
+returns-in-Err c =
     let a = c.args in
     record {
       value = c.number.ensures
-          ∙ write_number_lem a.state.now a.ram.now a.addr a.byte c.write.ensures.value c.in-Refuse.is;
+          ∙ write_number_lem a.state.now a.ram.now a.addr a.byte c.write.ensures.value c.in-Err.is;
       state_after = c.write.ensures.s_after;
       ram_after = c.write.ensures.ram_after;
     }

@@ -5,4 +5,4 @@ use Rattle.player.proofs.kind_number.Goals as goal
 
 pub returns : goal.returns
 returns c =
-    c.kind_of.ensures ∙ ap kind_of c.start.ensures
+    c.kind.ensures ∙ ap kind_of c.start.ensures

@@ -4,6 +4,6 @@ use Prim.Native.Nat.{ℕ, ◌+◌}
 use Rattle.player.specs.Bus.{read_number}
 use Rattle.player.proofs.read_number.Goals as goal
 
-pub returns-in-Refuse : goal.returns-in-Refuse
-returns-in-Refuse c =
-    ap (λ (n : ℕ). 0x100 + n) c.number.ensures ∙ ap read_number (sym c.in-Refuse.is)
+pub returns-in-Err : goal.returns-in-Err
+returns-in-Err c =
+    ap (λ (n : ℕ). 0x100 + n) c.number.ensures ∙ ap read_number (sym c.in-Err.is)

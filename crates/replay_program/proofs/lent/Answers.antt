@@ -6,7 +6,7 @@ use Rattle.replay_program.proofs.lent.Goals as goal
 pub returns-then-n-gt-RAM_MOST : goal.returns-then-n-gt-RAM_MOST
 returns-then-n-gt-RAM_MOST c =
     let a = c.args in
-    let e = lent_all a.image.now c.ask_area.ensures c.in-Bytes.is c.if-n-gt-RAM_MOST.true in
+    let e = lent_all a.image.now c.ask_area.ensures c.in-Ok.is c.if-n-gt-RAM_MOST.true in
     record {
       value = e;
       upper_bound = omega arith;
@@ -15,16 +15,16 @@ returns-then-n-gt-RAM_MOST c =
 pub returns-else-n-gt-RAM_MOST : goal.returns-else-n-gt-RAM_MOST
 returns-else-n-gt-RAM_MOST c =
     let a = c.args in
-    let e = lent_asked a.image.now c.ask_area.ensures c.in-Bytes.is c.if-n-gt-RAM_MOST.false in
+    let e = lent_asked a.image.now c.ask_area.ensures c.in-Ok.is c.if-n-gt-RAM_MOST.false in
     record {
       value = e;
       upper_bound = c.if-n-gt-RAM_MOST.false;
     }
 
-pub returns-in-Refuse : goal.returns-in-Refuse
-returns-in-Refuse c =
+pub returns-in-Err : goal.returns-in-Err
+returns-in-Err c =
     let a = c.args in
-    let e = lent_by_lem a.image.now c.ask_area.ensures c.in-Refuse.is in
+    let e = lent_by_lem a.image.now c.ask_area.ensures c.in-Err.is in
     record {
       value = e;
       upper_bound = omega arith;

@@ -8,19 +8,19 @@ pub put_numbered-requires : goal.put_numbered-requires
 put_numbered-requires c =
     omega (arith, number_fits c.number.result c.args.trace.now c.args.room.now (search rules) c.requires)
 
-pub returns-in-To : goal.returns-in-To
-returns-in-To c =
+pub returns-in-Ok : goal.returns-in-Ok
+returns-in-Ok c =
     let a = c.args in
     let d = c.run-reached.ensures in
     let m = c.mount.ensures in
-    let x = on_mounted a.image.now a.area.now a.trace.now m.value c.in-To.is m.ram_after d.ram_after d.put in
+    let x = on_mounted a.image.now a.area.now a.trace.now m.value c.in-Ok.is m.ram_after d.ram_after d.put in
     record { put = x.0; area_after = x.1; upper_bound = d.end_in_bounds }
 
-pub returns-in-Refuse : goal.returns-in-Refuse
-returns-in-Refuse c =
+pub returns-in-Err : goal.returns-in-Err
+returns-in-Err c =
     let p = c.put_numbered.ensures in
     let m = c.mount.ensures in
     let n = c.number in
-    let x = on_refused c.args.image.now c.args.area.now c.args.trace.now m.value c.in-Refuse.is m.ram_after n.ensures p in
+    let x = on_refused c.args.image.now c.args.area.now c.args.trace.now m.value c.in-Err.is m.ram_after n.ensures p in
     let l = number_fits n.result c.args.trace.now c.args.room.now (search rules) c.requires in
     record { put = x.0; area_after = x.1; upper_bound = omega (arith, l, p.behind) }

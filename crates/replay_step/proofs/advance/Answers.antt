@@ -13,21 +13,21 @@ put_numbered-requires c =
     let n = c.args.count in
     omega (arith, c.requires, length_numbered 67 n, length_decimal_32 n (omega (arith, c.ranges.count)))
 
-pub returns-in-To : goal.returns-in-To
-returns-in-To c =
+pub returns-in-Ok : goal.returns-in-Ok
+returns-in-Ok c =
     let n = c.args.count in
     let p = c.put_numbered.ensures in
-    let e = sym c.in-To.is ∙ c.advance.ensures in
+    let e = sym c.in-Ok.is ∙ c.advance.ensures in
     record {
       by_index = λ area. did_by (ap (after_clocks (machine c.args.cart area)) e) refl p;
       end_bound = omega
           (arith, p.behind, length_numbered 67 n, length_decimal_32 n (omega (arith, c.ranges.count)));
     }
 
-pub returns-in-Refuse : goal.returns-in-Refuse
-returns-in-Refuse c =
+pub returns-in-Err : goal.returns-in-Err
+returns-in-Err c =
     let p = c.put_refused.ensures in
-    let e = sym c.in-Refuse.is ∙ c.advance.ensures in
+    let e = sym c.in-Err.is ∙ c.advance.ensures in
     record {
       by_index = λ area. did_by (ap (after_clocks (machine c.args.cart area)) e) refl
           (put_number_lem 88 c.number.ensures p.put);

@@ -1,4 +1,5 @@
 -- `save_file::ask_room` meets its contract: the two tests, and a sum that cannot wrap.
+use Rattle.std.specs.Prelude.{Ok}
 use mathlib.Core.Path.{refl, sym, ap, ◌∙◌}
 use Prim.Native.Nat.{ℕ, ◌+◌}
 use native.Mathlib.Omega.{arith}
@@ -7,7 +8,6 @@ use Rattle.mapper.proofs.Laws.{area_le}
 use Rattle.battery.specs.Battery.{clock_in}
 use Rattle.battery.proofs.Laws.{size_le}
 use Rattle.cartridge.proofs.Laws.{fit_size}
-use Rattle.save_file.specs.declared.Room.TheVariants.{Bytes}
 use Rattle.save_file.proofs.Laws.{room_tested}
 use Rattle.facts.proofs.ChoiceLaws.{not_true, not_false}
 use Rattle.save_file.proofs.ask_room.Goals as goal
@@ -40,7 +40,7 @@ overflow_add-result c =
 pub returns : goal.returns
 returns c =
     let a = c.args in
-    ap Bytes
+    ap Ok
     (ap (λ (n : ℕ). n + c.save_battery_size.result) c.area.ensures
     ∙ ap (λ (n : ℕ). area_of a.cart.mapper a.cart.size + n) c.save_battery_size.ensures)
     ∙ room_tested a.cart (sym c.if-not-fit.false ∙ c.fit.ensures) (sym (not_false _ c.if-not-cart.false))

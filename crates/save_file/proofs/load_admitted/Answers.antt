@@ -1,6 +1,9 @@
 -- `save_file::load_admitted` meets its contract: too short, or by what stands behind the RAM.
 use lib.ListN.{length}
-use mathlib.Core.Path.{refl}
+use Rattle.std.specs.Prelude.{Ok}
+use mathlib.Core.Path.{refl, sym, ap, ◌∙◌}
+use Rattle.facts.proofs.Handed.{handed_on}
+use Rattle.save_file.specs.Load.{area_by}
 use Rattle.save_file.proofs.Laws.{loaded_short, loaded_long}
 use Rattle.save_file.proofs.load_admitted.Goals as goal
 
@@ -12,29 +15,31 @@ returns-then-save-ram c =
       ram_after = refl;
     }
 
-pub returns-in-To : goal.returns-in-To
-returns-in-To c =
+pub returns-in-Some : goal.returns-in-Some
+returns-in-Some c =
     let a = c.args in
     record {
       value = loaded_long a.cart (length a.ram.now) a.save.now a.wall c.if-save-ram.false c.load_battery.ensures
-          c.in-To.is;
+          (c.in_ok-woken.was ∙ ap Ok c.in-Some.is);
       ram_after = c.restore.ensures;
     }
 
-pub returns-in-RamOnly : goal.returns-in-RamOnly
-returns-in-RamOnly c =
+pub returns-in-None : goal.returns-in-None
+returns-in-None c =
     let a = c.args in
     record {
       value = loaded_long a.cart (length a.ram.now) a.save.now a.wall c.if-save-ram.false c.load_battery.ensures
-          c.in-RamOnly.is;
-      ram_after = c.restore-in-RamOnly.ensures;
+          (c.in_ok-woken.was ∙ ap Ok c.in-None.is);
+      ram_after = c.restore.ensures;
     }
 
-pub returns-in-Refuse : goal.returns-in-Refuse
-returns-in-Refuse c =
+pub returns-in_err-woken : goal.returns-in_err-woken
+returns-in_err-woken c =
     let a = c.args in
+    let e = handed_on _ c.from_residual.ensures in
     record {
-      value = loaded_long a.cart (length a.ram.now) a.save.now a.wall c.if-save-ram.false c.load_battery.ensures
-          c.in-Refuse.is;
-      ram_after = refl;
+      value = e
+          ∙ loaded_long a.cart (length a.ram.now) a.save.now a.wall c.if-save-ram.false c.load_battery.ensures
+          c.in_err-woken.was;
+      ram_after = sym (ap (area_by a.ram.now a.save.now) e);
     }

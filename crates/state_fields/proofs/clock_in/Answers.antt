@@ -4,5 +4,5 @@ use Rattle.state_fields.proofs.clock_in.Goals as goal
 
 pub returns : goal.returns
 returns c =
-    clock_of_lem c.clock_registers_in-running.ensures c.read_u32.ensures c.read_u64.ensures
+    clock_of_lem c.clock_registers_in-running.ensures c.read.ensures c.read-2.ensures
     c.flag_at.ensures c.clock_registers_in-frozen.ensures

@@ -4,5 +4,5 @@ use Rattle.state_fields.proofs.clock_registers_in.Goals as goal
 
 pub returns : goal.returns
 returns c =
-    registers_of_lem c.read_u8.ensures c.read_u8-2.ensures c.read_u8-3.ensures
-    c.read_u16.ensures c.flag_at.ensures c.flag_at-2.ensures
+    registers_of_lem c.read.ensures c.read-2.ensures c.read-3.ensures
+    c.read-4.ensures c.flag_at.ensures c.flag_at-2.ensures

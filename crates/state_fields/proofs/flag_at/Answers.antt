@@ -6,4 +6,4 @@ use Rattle.state_fields.proofs.flag_at.Goals as goal
 
 pub returns : goal.returns
 returns c =
-    ap (λ (n : ℕ). eqb n 1) c.read_u8.ensures
+    ap (λ (n : ℕ). eqb n 1) c.read.ensures

@@ -7,4 +7,4 @@ use Rattle.state_fields.proofs.is_within.Goals as goal
 pub returns : goal.returns
 returns c =
     let a = c.args in
-    word_within a.s.now a.at (λ i. omega (arith, c.shared_slice_known-1.given i)) c.requires c.read_u64.ensures refl
+    word_within a.s.now a.at (λ i. omega (arith, c.shared_slice_known-1.given i)) c.requires c.read.ensures refl

@@ -10,6 +10,6 @@ returns c =
     let k = c.args.k in
     store_on (clock_registers 52 k.frozen)
     (store_on (clock_registers 45 k.running)
-    (put_on 1 44 _ (put_on 4 40 _ c.write_u64.ensures c.write_u32.ensures) c.put_flag.ensures)
+    (put_on 1 44 _ (put_on 4 40 _ c.write.ensures c.write-2.ensures) c.put_flag.ensures)
     c.put_clock_registers.ensures)
     c.put_clock_registers-2.ensures

@@ -9,6 +9,6 @@ returns c =
     put_on 1 _ _
     (put_on 1 _ _
     (put_on 2 _ _
-    (put_on 1 _ _ (put_on 1 _ _ c.write_u8.ensures c.write_u8-2.ensures) c.write_u8-3.ensures) c.write_u16.ensures)
+    (put_on 1 _ _ (put_on 1 _ _ c.write.ensures c.write-2.ensures) c.write-3.ensures) c.write-4.ensures)
     c.put_flag.ensures)
     c.put_flag-2.ensures

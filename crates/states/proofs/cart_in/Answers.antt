@@ -4,4 +4,4 @@ use Rattle.states.proofs.cart_in.Goals as goal
 
 pub returns : goal.returns
 returns c =
-    cart_of_lem _ c.read_u64.ensures c.read_u16.ensures c.read_u64-2.ensures c.flag_at.ensures
+    cart_of_lem _ c.read.ensures c.read-2.ensures c.read-3.ensures c.flag_at.ensures

@@ -5,5 +5,5 @@ use Rattle.states.proofs.clear.Goals as goal
 pub returns : goal.returns
 returns c =
     let a = c.args in
-    cleared_in a.s.now a.kind c.flag_at-battery.ensures c.read_u16-banks.ensures c.read_u64-image.ensures
-    c.read_u64-size.ensures c.put_board.ensures
+    cleared_in a.s.now a.kind c.flag_at-battery.ensures c.read-banks.ensures c.read-image.ensures
+    c.read-size.ensures c.put_board.ensures

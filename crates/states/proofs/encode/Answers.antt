@@ -5,5 +5,5 @@ use Rattle.states.proofs.encode.Goals as goal
 pub returns : goal.returns
 returns c =
     let a = c.args.cart in
-    encoded a.mapper a.battery a.banks a.length a.size c.kind_of.ensures c.put_board.ensures
-    c.put_mapper.ensures
+    encoded a.mapper a.battery a.banks a.length a.size c.kind.ensures c.put_board.ensures
+    c.put_fields.ensures

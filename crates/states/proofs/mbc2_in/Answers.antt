@@ -4,4 +4,4 @@ use Rattle.states.proofs.mbc2_in.Goals as goal
 
 pub returns : goal.returns
 returns c =
-    mbc2_of_lem c.flag_at.ensures c.read_u8.ensures
+    mbc2_of_lem c.flag_at.ensures c.read.ensures

@@ -5,4 +5,4 @@ use Rattle.states.proofs.mbc3_in.Goals as goal
 
 pub returns : goal.returns
 returns c =
-    mbc3_of_lem c.flag_at.ensures c.read_u8.ensures c.flag_at-2.ensures c.read_u8-2.ensures refl refl
+    mbc3_of_lem c.flag_at.ensures c.read.ensures c.flag_at-2.ensures c.read-2.ensures refl refl

@@ -4,4 +4,4 @@ use Rattle.states.proofs.mbc5_in.Goals as goal
 
 pub returns : goal.returns
 returns c =
-    mbc5_of_lem c.flag_at.ensures c.read_u16.ensures c.read_u8.ensures
+    mbc5_of_lem c.flag_at.ensures c.read.ensures c.read-2.ensures

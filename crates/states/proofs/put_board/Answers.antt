@@ -9,7 +9,7 @@ returns c =
     put_on 8 24 _
     (put_on 8 16 _
     (put_on 2 8 _
-    (put_on 1 1 _ c.write_u8.ensures c.put_flag.ensures)
-    c.write_u16.ensures)
-    c.write_u64.ensures)
-    c.write_u64-2.ensures
+    (put_on 1 1 _ c.write.ensures c.put_flag.ensures)
+    c.write-2.ensures)
+    c.write-3.ensures)
+    c.write-4.ensures

@@ -7,5 +7,5 @@ pub returns : goal.returns
 unfolding stored
 returns c =
     put_on 1 7 _
-    (put_on 1 6 _ (put_on 2 4 _ (put_on 1 3 _ c.put_flag.ensures c.put_flag-2.ensures) c.write_u16.ensures) c.write_u8.ensures)
-    c.write_u8-2.ensures
+    (put_on 1 6 _ (put_on 2 4 _ (put_on 1 3 _ c.put_flag.ensures c.put_flag-2.ensures) c.write.ensures) c.write-2.ensures)
+    c.write-3.ensures

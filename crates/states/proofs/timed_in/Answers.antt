@@ -5,4 +5,4 @@ use Rattle.states.proofs.timed_in.Goals as goal
 
 pub returns : goal.returns
 returns c =
-    mbc3_to c.args.s.now true c.mbc3_in.ensures c.read_u8.ensures c.clock_in.ensures
+    mbc3_to c.args.s.now true c.mbc3_in.ensures c.read.ensures c.clock_in.ensures

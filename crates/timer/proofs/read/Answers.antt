@@ -3,13 +3,9 @@ use mathlib.Core.Path.{sym, ◌∙◌}
 use Rattle.timer.proofs.WindowLaws.{read_on, read_off}
 use Rattle.timer.proofs.read.Goals as goal
 
-pub returns-in-Byte : goal.returns-in-Byte
-returns-in-Byte c =
-    read_on c.args.m _ (sym c.on_clock.ensures ∙ c.if-on_clock.true) (sym c.read.ensures ∙ c.in-Byte.is)
-
-pub returns-in-NoRegister : goal.returns-in-NoRegister
-returns-in-NoRegister c =
-    read_on c.args.m _ (sym c.on_clock.ensures ∙ c.if-on_clock.true) (sym c.read.ensures ∙ c.in-NoRegister.is)
+pub returns-then-on_clock : goal.returns-then-on_clock
+returns-then-on_clock c =
+    c.unwrap_or.ensures ∙ read_on c.args.m _ (sym c.on_clock.ensures ∙ c.if-on_clock.true) (sym c.read.ensures)
 
 pub returns : goal.returns
 returns c =

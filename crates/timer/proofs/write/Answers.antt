@@ -3,15 +3,15 @@ use mathlib.Core.Path.{sym, ◌∙◌}
 use Rattle.timer.proofs.WindowLaws.{write_on, write_off}
 use Rattle.timer.proofs.write.Goals as goal
 
-pub returns-in-To : goal.returns-in-To
-returns-in-To c =
+pub returns-in-Some : goal.returns-in-Some
+returns-in-Some c =
     let a = c.args in
-    write_on a.m a.byte _ (sym c.on_clock.ensures ∙ c.if-on_clock.true) (sym c.write.ensures ∙ c.in-To.is)
+    write_on a.m a.byte _ (sym c.on_clock.ensures ∙ c.if-on_clock.true) (sym c.write.ensures ∙ c.in-Some.is)
 
-pub returns-in-NoRegister : goal.returns-in-NoRegister
-returns-in-NoRegister c =
+pub returns-in-None : goal.returns-in-None
+returns-in-None c =
     let a = c.args in
-    write_on a.m a.byte _ (sym c.on_clock.ensures ∙ c.if-on_clock.true) (sym c.write.ensures ∙ c.in-NoRegister.is)
+    write_on a.m a.byte _ (sym c.on_clock.ensures ∙ c.if-on_clock.true) (sym c.write.ensures ∙ c.in-None.is)
 
 pub returns : goal.returns
 returns c =

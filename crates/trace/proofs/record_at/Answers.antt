@@ -13,13 +13,13 @@ returns-then-bytes-at-lt2 c =
     let a = c.args in
     one_left a.bytes.now a.at c.if-bytes-at.false c.if-bytes-at-lt2.true
 
-pub returns-in-Known : goal.returns-in-Known
-returns-in-Known c =
+pub returns : goal.returns
+returns c =
     let a = c.args in
     c.whole_at.ensures
-    ∙ two_left a.bytes.now a.at c.if-bytes-at-lt2.false (sym c.in-Known.is ∙ c.kind_of.ensures)
+    ∙ two_left a.bytes.now a.at c.if-bytes-at-lt2.false (sym c.in-Some.is ∙ c.kind_of.ensures)
 
-pub returns-in-Unknown : goal.returns-in-Unknown
-returns-in-Unknown c =
+pub returns-in_default : goal.returns-in_default
+returns-in_default c =
     let a = c.args in
-    two_left a.bytes.now a.at c.if-bytes-at-lt2.false (sym c.in-Unknown.is ∙ c.kind_of.ensures)
+    two_left a.bytes.now a.at c.if-bytes-at-lt2.false (sym c.in_default.is ∙ c.kind_of.ensures)

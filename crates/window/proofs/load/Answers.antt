@@ -3,8 +3,8 @@ use Rattle.window.proofs.load.Goals as goal
 
 pub bounds-ram-i : goal.bounds-ram-i
 bounds-ram-i c =
-    rw c.in-At.is at c.requires
+    rw c.in-Some.is at c.requires
 
-pub returns-in-At : goal.returns-in-At
-returns-in-At c =
-    simp c.in-At.is
+pub returns-in-Some : goal.returns-in-Some
+returns-in-Some c =
+    simp c.in-Some.is

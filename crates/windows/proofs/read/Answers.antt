@@ -1,8 +1,8 @@
 -- `windows::read` meets its contract: by the window.
+use Rattle.std.specs.Prelude.{Ok}
 use mathlib.Core.Path.{ap, ◌∙◌}
 use Prim.Native.Nat.{ℕ, ◌+◌, ◌%◌}
 use Rattle.image.specs.Image.{byte_at}
-use Rattle.windows.specs.declared.Seen.TheVariants.{Byte}
 use Rattle.windows.proofs.Laws.{seen_rom, seen_ram, seen_outside}
 use Rattle.access.proofs.Laws.{below_ram, above_ram}
 use Rattle.windows.proofs.read.Goals as goal
@@ -10,7 +10,7 @@ use Rattle.windows.proofs.read.Goals as goal
 pub returns-in-0-to-32767 : goal.returns-in-0-to-32767
 returns-in-0-to-32767 c =
     let a = c.args in
-    ap Byte
+    ap Ok
     (c.rom_byte.ensures ∙ ap (λ (k : ℕ). byte_at a.rom.now (k + a.addr % 0x4000)) c.rom_start.ensures)
     ∙ seen_rom a.w a.rom.now a.ram.now a.addr c.in-0-to-32767.if-addr-lt32768-own.true
 

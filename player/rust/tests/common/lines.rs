@@ -1,5 +1,6 @@
 //! The lines of crates/bus_lines: `R A000 5C` read, `W A000 5C` written, `C 5` clocks passed, `F 512` RAM filled, `X 15` refused; and the
 //! comparison with what a proved program writes.
+use super::steps::Step;
 use super::{build, Bus};
 use std::fmt::Write;
 
@@ -8,9 +9,9 @@ pub fn number(out: &mut String, letter: char, n: u64) {
 }
 
 /// The cartridge that was mounted: length, type byte, banks, RAM size.
-pub fn heading(out: &mut String, image: &[u8], codes: u32) {
+pub fn heading(out: &mut String, image: &[u8], type_byte: u8) {
     let facts = imfelkuz::Facts::of(image).unwrap();
-    writeln!(out, "M {} {} {} {}", image.len(), codes / 65536 % 256, facts.rom_banks, facts.ram_size).unwrap();
+    writeln!(out, "M {} {} {} {}", image.len(), type_byte, facts.rom_banks, facts.ram_size).unwrap();
 }
 
 /// Each byte counts with its place.
@@ -28,20 +29,13 @@ fn filled<B: Bus>(out: &mut String, cart: &mut B) {
     number(out, 'F', area as u64);
 }
 
-/// A code is the line's letter and then an address and a byte, or a count of clocks, or nothing: 0x52_A000_00, 0x57_A000_5C,
-/// 0x43_000005, 0x46_000000. A small `w`, 0x77_4000_08, is written with no line.
-pub fn step<B: Bus>(out: &mut String, cart: &mut B, code: u32) {
-    let addr = (code / 256 % 65536) as u16;
-    let byte = (code % 256) as u8;
-    let answer = match (code / 0x1000000) as u8 {
-        b'R' => cart.read(addr).map(|b| writeln!(out, "R {:04X} {:02X}", addr, b).unwrap()),
-        b'W' => cart.write(addr, byte).map(|()| writeln!(out, "W {:04X} {:02X}", addr, byte).unwrap()),
-        b'w' => cart.write(addr, byte),
-        b'C' => {
-            let n = (code % 0x1000000).into();
-            cart.advance(n).map(|()| number(out, 'C', n))
-        }
-        _ => {
+fn take<B: Bus>(out: &mut String, cart: &mut B, step: Step) {
+    let answer = match step {
+        Step::Read(addr) => cart.read(addr).map(|b| writeln!(out, "R {:04X} {:02X}", addr, b).unwrap()),
+        Step::Write(addr, byte) => cart.write(addr, byte).map(|()| writeln!(out, "W {:04X} {:02X}", addr, byte).unwrap()),
+        Step::Quiet(addr, byte) => cart.write(addr, byte),
+        Step::Clocks(n) => cart.advance(n).map(|()| number(out, 'C', n)),
+        Step::Fill => {
             filled(out, cart);
             Ok(())
         }
@@ -51,9 +45,10 @@ pub fn step<B: Bus>(out: &mut String, cart: &mut B, code: u32) {
     }
 }
 
-pub fn each<B: Bus>(out: &mut String, cart: &mut B, codes: &[u32]) {
-    for code in codes {
-        step(out, cart, *code);
+/// Each step in its turn, and its line.
+pub fn each<B: Bus>(out: &mut String, cart: &mut B, steps: &[Step]) {
+    for step in steps {
+        take(out, cart, *step);
     }
 }
 

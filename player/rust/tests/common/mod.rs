@@ -13,6 +13,9 @@ pub mod build;
 #[rustfmt::skip]
 #[path = "../../../../crates/bus_recipe/src/draw.rt"]
 pub mod draw;
+#[rustfmt::skip]
+#[path = "../../../../crates/bus_recipe/src/steps.rt"]
+pub mod steps;
 
 use imfelkuz::sys::{self, State};
 use imfelkuz::{Cartridge, Facts, Loaded, Refusal};

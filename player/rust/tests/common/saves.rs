@@ -2,11 +2,16 @@
 //! 25 bytes, `E` four bytes of the room beyond, `B` how many bytes are read, `L` the wall time of a reading and its answer, `A` the sum
 //! of the RAM area.
 use super::lines::{each, heading, number, sum};
+use super::steps::Step;
 use super::{build, done, Bus, Lent};
 use imfelkuz::{sys, Loaded};
+use jobs::{Job, Moment};
 use std::cell::RefCell;
 use std::fmt::Write;
 
+#[rustfmt::skip]
+#[path = "../../../../crates/save_cases/src/jobs.rt"]
+pub mod jobs;
 #[rustfmt::skip]
 #[path = "../../../../crates/save_flows/src/tables.rt"]
 mod tables;
@@ -66,9 +71,9 @@ fn loaded(out: &mut String, answer: Result<Loaded, u32>, wall: u64) {
 }
 
 // Mounted at wall time 1000, filled and played, and saved at this wall time: the save's length.
-fn first<B: Bus>(out: &mut String, case: &Case, room: &mut [u8], table: &[u32], wall: u64) -> usize {
+fn first<B: Bus>(out: &mut String, case: &Lending, room: &mut [u8], table: &[Step], wall: u64) -> usize {
     let mut cart = B::mount(case.image, case.area, 1000).unwrap();
-    heading(out, case.image, case.codes);
+    heading(out, case.image, case.type_byte);
     each(out, &mut cart, &tables::FILLED);
     each(out, &mut cart, table);
     case.leave(cart.ram());
@@ -76,7 +81,7 @@ fn first<B: Bus>(out: &mut String, case: &Case, room: &mut [u8], table: &[u32], 
 }
 
 // Mounted at this wall time, the save read, the registers read, and saved again.
-fn again<B: Bus>(out: &mut String, case: &Case, bytes: &[u8], wall: u64) {
+fn again<B: Bus>(out: &mut String, case: &Lending, bytes: &[u8], wall: u64) {
     let mut cart = B::mount(case.image, case.area, wall).unwrap();
     let answer = cart.load(bytes, wall);
     loaded(out, answer, wall);
@@ -86,7 +91,7 @@ fn again<B: Bus>(out: &mut String, case: &Case, bytes: &[u8], wall: u64) {
     case.leave(cart.ram());
 }
 
-fn timed<B: Bus>(out: &mut String, case: &Case, table: &[u32], wall: u64, later: &[u64]) {
+fn timed<B: Bus>(out: &mut String, case: &Lending, table: &[Step], wall: u64, later: &[u64]) {
     let mut room = room();
     let n = first::<B>(out, case, &mut room, table, wall);
     again::<B>(out, case, &room[..n], wall);
@@ -96,11 +101,11 @@ fn timed<B: Bus>(out: &mut String, case: &Case, table: &[u32], wall: u64, later:
 }
 
 // A save that no cartridge wrote: each byte of RAM a mix of its place, a block, and three bytes more.
-fn made(area: usize, registers: u64, offset: u64) -> Vec<u8> {
+fn made(area: usize, moment: Moment, offset: u64) -> Vec<u8> {
     let mut bytes: Vec<u8> = (0..area + 24).map(|i| build::mixed(i + 0x900000)).collect();
-    let day = (registers / 0x1000000 % 65536) as u16;
+    let Moment(day, hour, minute, second) = moment;
     let block = &mut bytes[area..];
-    block[..3].copy_from_slice(&registers.to_le_bytes()[..3]);
+    block[..3].copy_from_slice(&[second, minute, hour]);
     block[3..5].copy_from_slice(&day.to_le_bytes());
     block[5..13].copy_from_slice(&1000u64.to_le_bytes());
     block[13..21].copy_from_slice(&offset.to_le_bytes());
@@ -108,9 +113,9 @@ fn made(area: usize, registers: u64, offset: u64) -> Vec<u8> {
 }
 
 // Played, a save read at this wall time, and played on; what is kept before and after.
-fn between<B: Bus>(out: &mut String, case: &Case, before: &[u32], bytes: &[u8], wall: u64, after: &[u32]) {
+fn between<B: Bus>(out: &mut String, case: &Lending, before: &[Step], bytes: &[u8], wall: u64, after: &[Step]) {
     let mut cart = B::mount(case.image, case.area, wall).unwrap();
-    heading(out, case.image, case.codes);
+    heading(out, case.image, case.type_byte);
     each(out, &mut cart, before);
     kept(out, &cart, wall);
     number(out, 'B', bytes.len() as u64);
@@ -123,9 +128,9 @@ fn between<B: Bus>(out: &mut String, case: &Case, before: &[u32], bytes: &[u8], 
 
 // Saved and read with this bank count and n bytes of RAM lent; the cartridge is mounted with all but 512 of them. Only the calls can be
 // lent what is wrong.
-fn wrong(out: &mut String, case: &Case, banks: u16, n: usize) {
+fn wrong(out: &mut String, case: &Lending, banks: u16, n: usize) {
     let mut cart = Lent::mount(case.image, case.area - 512, 1000).unwrap();
-    heading(out, case.image, case.codes);
+    heading(out, case.image, case.type_byte);
     cart.ram.extend_from_slice(&case.left.borrow()[case.area - 512..case.area]);
     cart.state[8..10].copy_from_slice(&banks.to_le_bytes());
     let mut bytes = [0xEE; 10];
@@ -139,44 +144,43 @@ fn wrong(out: &mut String, case: &Case, banks: u16, n: usize) {
     case.leave(&cart.ram);
 }
 
-pub struct Case<'a> {
+pub struct Lending<'a> {
     pub image: &'a [u8],
     pub area: usize,
-    pub codes: u32,
+    pub type_byte: u8,
     /// What the cases before have left in the RAM.
     pub left: &'a RefCell<Vec<u8>>,
 }
 
-impl Case<'_> {
+impl Lending<'_> {
     fn leave(&self, ram: &[u8]) {
         self.left.borrow_mut()[..ram.len()].copy_from_slice(ram);
     }
 }
 
-/// What a case goes through: a letter and the day, hour, minute and second of a block, as 0x57_012C_08_09_0A, and a number n.
-pub fn show<B: Bus>(out: &mut String, case: &Case, what: u64, n: u64) {
-    let block = |offset| made(case.area, what, offset);
-    let later = [n.wrapping_add(61), n.wrapping_add(34_560_000), n.saturating_sub(900)];
-    match (what / 0x100_0000_0000 % 256) as u8 {
-        // A whole save, read at wall time n; with offset n, at wall time 1000; refused by a cartridge that has been filled.
-        b'W' => between::<B>(out, case, &[], &block(0), n, &tables::READS),
-        b'O' => between::<B>(out, case, &[], &block(n), 1000, &tables::READS),
-        b'R' => between::<B>(out, case, &tables::FILLED, &block(n), 1000, &[]),
-        // Read by a cartridge in use.
-        b'U' => between::<B>(out, case, &tables::USED, &block(0), 1000, &tables::AFTER),
-        // Filled through the bus, saved at wall time 1000, and read then.
-        b'P' => timed::<B>(out, case, &[], 1000, &[]),
-        // Filled, the clock at work, saved at wall time n, and read then and at three more times.
-        b'D' => timed::<B>(out, case, &tables::DAY_111, n, &later),
-        b'H' => timed::<B>(out, case, &tables::DAY_300, n, &later),
-        // The first n bytes of a save.
-        b'C' => between::<B>(out, case, &[], &block(0)[..n as usize], 1000, &[]),
-        // Filled, and saved into a room of n bytes; the sum of all of it.
-        b'S' => {
+fn slept<B: Bus>(out: &mut String, case: &Lending, table: &[Step], wall: u32) {
+    let time: u64 = wall.into();
+    timed::<B>(out, case, table, time, &[time + 61, time + 34_560_000, time.saturating_sub(900)]);
+}
+
+/// What a case goes through.
+pub fn show<B: Bus>(out: &mut String, case: &Lending, job: Job) {
+    let block = |moment, offset| made(case.area, moment, offset);
+    match job {
+        Job::Whole(moment, wall) => between::<B>(out, case, &[], &block(moment, 0), wall, &tables::READS),
+        Job::Offset(moment, offset) => between::<B>(out, case, &[], &block(moment, offset), 1000, &tables::READS),
+        Job::Refused(moment, offset) => between::<B>(out, case, &tables::FILLED, &block(moment, offset), 1000, &[]),
+        Job::Used(moment) => between::<B>(out, case, &tables::USED, &block(moment, 0), 1000, &tables::AFTER),
+        Job::Cut(moment, most) => between::<B>(out, case, &[], &block(moment, 0)[..most], 1000, &[]),
+        Job::Plain => timed::<B>(out, case, &[], 1000, &[]),
+        Job::Day111(wall) => slept::<B>(out, case, &tables::DAY_111, wall),
+        Job::Day300(wall) => slept::<B>(out, case, &tables::DAY_300, wall),
+        // The sum of the whole room too.
+        Job::Short(size) => {
             let mut room = room();
-            first::<B>(out, case, &mut room[..n as usize], &[], 1000);
+            first::<B>(out, case, &mut room[..size], &[], 1000);
             number(out, 'A', sum(&room));
         }
-        _ => wrong(out, case, (what % 65536) as u16, n as usize),
+        Job::Wrong(banks, lent) => wrong(out, case, banks, lent),
     }
 }

@@ -25,9 +25,9 @@ returns-in_default c =
 pub returns-then-self-gone : goal.returns-then-self-gone
 returns-then-self-gone c =
     let t = rest_tested c.args.self c.both.ensures c.fit.ensures in
-    late_by c.args.self c.args.n (t ∙ c.if-not-both.false) c.elapsed-gone.ensures (sym c.forward.ensures ∙ c.in-To.is) c.if-self-gone.true
+    late_by c.args.self c.args.n (t ∙ c.if-not-both.false) c.elapsed-gone.ensures (sym c.forward.ensures ∙ c.in-Some.is) c.if-self-gone.true
 
 pub returns : goal.returns
 returns c =
     let t = rest_tested c.args.self c.both.ensures c.fit.ensures in
-    advanced_by c.args.self c.args.n (t ∙ c.if-not-both.false) c.elapsed-gone.ensures (sym c.forward.ensures ∙ c.in-To.is) c.if-self-gone.false (omega (arith, c.struct_known-3-1.given, c.struct_known-2-1.given))
+    advanced_by c.args.self c.args.n (t ∙ c.if-not-both.false) c.elapsed-gone.ensures (sym c.forward.ensures ∙ c.in-Some.is) c.if-self-gone.false (omega (arith, c.struct_known-3-1.given, c.struct_known-2-1.given))

@@ -2,7 +2,6 @@
 use borrow.Author.Rules.{rules}
 use Rattle.clock.proofs.AccessLaws.{shown_nothing, shown_by}
 use mathlib.Core.Bool.{true, false}
-use Rattle.clock.proofs.AccessLaws.{shown_nothing, shown_by}
 use Rattle.clock.proofs.Clock.read.Goals as goal
 
 pub returns-then-n-gt4 : goal.returns-then-n-gt4
@@ -15,7 +14,7 @@ returns-then-self c =
     let a = c.args in
     shown_by a.self a.n true (search rules) (search rules) c.get.ensures
 
-pub returns : goal.returns
-returns c =
+pub returns-else-self : goal.returns-else-self
+returns-else-self c =
     let a = c.args in
-    shown_by a.self a.n false (search rules) (search rules) c.get-2.ensures
+    shown_by a.self a.n false (search rules) (search rules) c.get-else-self.ensures

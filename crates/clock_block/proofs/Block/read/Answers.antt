@@ -6,5 +6,5 @@ use Rattle.clock_block.proofs.Block.read.Goals as goal
 pub returns : goal.returns
 unfolding block_in
 returns c =
-    block_of_lem c.read_u8.ensures c.read_u8-2.ensures c.read_u8-3.ensures
-    c.read_u16.ensures c.read_u64.ensures c.read_u64-2.ensures
+    block_of_lem c.read.ensures c.read-2.ensures c.read-3.ensures
+    c.read-4.ensures c.read-5.ensures c.read-6.ensures

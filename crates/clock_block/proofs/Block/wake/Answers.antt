@@ -10,12 +10,12 @@ returns-in_default c =
 pub returns-then-passes : goal.returns-then-passes
 returns-then-passes c =
     let a = c.args in
-    woken_late a.self a.wall _ c.registers-taken.ensures c.forward.ensures c.in-To.is
+    woken_late a.self a.wall _ c.registers-taken.ensures c.forward.ensures c.in-Some.is
     c.passes.ensures c.if-passes.true
 
 pub returns : goal.returns
 returns c =
     let a = c.args in
-    woken_to a.self a.wall _ c.registers-taken.ensures c.forward.ensures c.in-To.is
+    woken_to a.self a.wall _ c.registers-taken.ensures c.forward.ensures c.in-Some.is
     c.passes.ensures c.if-passes.false c.wrapping_add_u64-time.ensures.value
     c.saturating_sub.ensures c.new-fresh.ensures

@@ -4,5 +4,5 @@ use Rattle.clock_block.proofs.Block.write.Goals as goal
 
 pub returns : goal.returns
 returns c =
-    fields_put c.args.self c.args.room.now c.requires c.write_u8.ensures c.write_u8-2.ensures
-    c.write_u8-3.ensures c.write_u16.ensures c.write_u64.ensures c.write_u64-2.ensures
+    fields_put c.args.self c.args.room.now c.requires c.write.ensures c.write-2.ensures
+    c.write-3.ensures c.write-4.ensures c.write-5.ensures c.write-6.ensures

@@ -1,15 +1,15 @@
 -- `mapper::Mapper::advance` meets its contract: only a timer moves.
+use Rattle.std.specs.Prelude.{Ok}
 use mathlib.Core.Path.{sym, ap, ◌∙◌}
 use mathlib.Core.Path.{refl}
 use Rattle.mapper.specs.Mappers.{advance_of, from_timer}
-use Rattle.mapper.specs.declared.Advanced.TheVariants.{To}
 use Rattle.mapper.proofs.Laws.{still_by, timed_answer}
 use Rattle.mapper.proofs.Mapper.advance.Goals as goal
 
 pub returns-in-NoMapper : goal.returns-in-NoMapper
 returns-in-NoMapper c =
     let a = c.args in
-    still_by a.self a.n c.in-NoMapper.is refl refl refl (ap To c.in-NoMapper.is)
+    still_by a.self a.n c.in-NoMapper.is refl refl refl (ap Ok c.in-NoMapper.is)
 
 pub returns-in-Mbc1 : goal.returns-in-Mbc1
 returns-in-Mbc1 c =

@@ -1,0 +1,9 @@
+-- `u16::read` meets its contract: two of half the width.
+use native.Mathlib.Omega.{arith}
+use Rattle.bytes_le.proofs.Laws.{read_joined}
+use Rattle.bytes_le.proofs.U16Field.read.Goals as goal
+
+pub returns : goal.returns
+returns c =
+    let p = c.requires in
+    read_joined 1 1 c.args.bytes.now c.args.at (omega arith) c.read-low.ensures c.read-high.ensures

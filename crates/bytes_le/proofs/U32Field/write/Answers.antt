@@ -1,0 +1,15 @@
+-- `u32::write` meets its contract: two of half the width.
+use mathlib.Core.Path.{ap, ◌∙◌}
+use mathlib.Core.List.{List}
+use Prim.Native.Nat.{ℕ, ◌+◌, ◌/◌}
+use Rattle.bytes_le.specs.Little.{put_at}
+use Rattle.bytes_le.proofs.Laws.{put_join}
+use Rattle.bytes_le.proofs.U32Field.write.Goals as goal
+
+pub returns : goal.returns
+returns c =
+    let a = c.args in
+    c.write-2.ensures
+    ∙ ap (λ (x : List ℕ). put_at 2 x (a.at + 2) (a.n / 65536))
+    c.write.ensures
+    ∙ put_join 2 2 a.bytes.now a.at a.n
