@@ -10,9 +10,9 @@ ghost use Rattle.std.specs.Prelude.{◌≡◌, IfOk, vec_len};
 
 use std::alloc::{AllocError, Global};
 
-// Where an image is filled. It is on the heap: a stack has no room for it.
-pub fn blank(alloc: Global) -> Result<Vec<u8>, AllocError>
-    ensures { IfOk result (λ image. vec_len image ≡ 0x800000) }
+// Where an image is filled: n zeros, on the heap, since a stack has no room for them.
+pub fn blank(alloc: Global, n: usize) -> Result<Vec<u8>, AllocError>
+    ensures { IfOk result (λ image. vec_len image ≡ n) }
 {
-    vec![in alloc; 0; 0x800000]
+    vec![in alloc; 0; n]
 }

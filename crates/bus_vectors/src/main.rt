@@ -77,7 +77,7 @@ fn all(
 }
 
 fn main(rt: HostRuntime) -> io::Result<()> {
-    let mut bytes = bus_recipe::blank(rt.alloc())?;
+    let mut bytes = bus_recipe::blank(rt.alloc(), 0x800000)?;
     let Some(image) = bytes.as_mut_slice().as_mut_array() else {
         unreachable!()
     };

@@ -34,8 +34,7 @@ use state_fields::fit_clock_registers;
 use states::{mbc1_in, mbc2_in, mbc5_in, timed_in, untimed_in};
 use types::Kind;
 
-fn fit_clock(s: &[u8]) -> bool
-    requires { 64 ≤ length s.now }
+fn fit_clock(s: &[u8; 64]) -> bool
     ensures { result ≡ fit_clock (clock_in s.now) }
 {
     let frozen = both(fit_clock_registers(s, 52), u32::read(s, 40) < 2097152);
@@ -43,8 +42,7 @@ fn fit_clock(s: &[u8]) -> bool
 }
 
 // An MBC3 with a timer: what one without is asked, and its clock.
-fn fit_timed(s: &[u8]) -> bool
-    requires { 64 ≤ length s.now }
+fn fit_timed(s: &[u8; 64]) -> bool
     ensures { result ≡ mbc3.fit_registers (timed_in s.now) }
 {
     let clock = both(u8::read(s, 7) <= 4, fit_clock(s));
@@ -52,8 +50,7 @@ fn fit_timed(s: &[u8]) -> bool
 }
 
 // Whether the flags of a kind are flags, and what was mounted is within its limits; asked is what else the kind wants.
-fn fits(s: &[u8], kind: u8, limits: Kind, rest: bool) -> bool
-    requires { 64 ≤ length s.now }
+fn fits(s: &[u8; 64], kind: u8, limits: Kind, rest: bool) -> bool
     ensures { result ≡ both (both (are_flags s.now (flags_of kind)) (not (beyond_of limits (field_at 2 s.now 8) (field_at 8 s.now 24)))) rest }
 {
     let banks = u16::read(s, 8) as u32;
@@ -66,16 +63,14 @@ fn fits(s: &[u8], kind: u8, limits: Kind, rest: bool) -> bool
 }
 
 // A multicart has 64 banks.
-fn fit_multicart(s: &[u8]) -> bool
-    requires { 64 ≤ length s.now }
+fn fit_multicart(s: &[u8; 64]) -> bool
     ensures { result ≡ both (eqb (field_at 2 s.now 8) 64) (mbc1.fit_registers (mbc1_in s.now true)) }
 {
     both(u16::read(s, 8) == 64, mbc1_in(s, true).fit())
 }
 
 // What a kind asks of the bytes, its registers among it.
-fn fit_kind(s: &[u8], kind: u8) -> bool
-    requires { 64 ≤ length s.now }
+fn fit_kind(s: &[u8; 64], kind: u8) -> bool
     ensures { result ≡ fit_kind s.now kind }
 {
     match kind {
@@ -120,8 +115,7 @@ pub fn is_area(s: &[u8], kind: u8, len: usize) -> bool
 }
 
 // Whether an image and an area of these lengths go with it.
-fn lent(s: &[u8], kind: u8, image: usize, ram: usize) -> bool
-    requires { 64 ≤ length s.now }
+fn lent(s: &[u8; 64], kind: u8, image: usize, ram: usize) -> bool
     ensures { result ≡ bus.lent_both (cart_at s.now kind) image ram }
 {
     let length = u64::read(s, 16) as usize;
@@ -157,9 +151,8 @@ pub fn bank_x(s: &[u8], kind: u8) -> u16
     }
 }
 
-fn bank_at(s: &[u8], kind: u8, addr: u16) -> u16
-    requires in_bounds { 64 ≤ length s.now }
-    requires kind_value { mapper.fit_registers (mapper_at s.now kind) ≡ true }
+fn bank_at(s: &[u8; 64], kind: u8, addr: u16) -> u16
+    requires { mapper.fit_registers (mapper_at s.now kind) ≡ true }
     ensures { result ≡ mapper.bank_at (mapper_at s.now kind) addr }
 {
     if addr < 0x4000 {
@@ -169,9 +162,8 @@ fn bank_at(s: &[u8], kind: u8, addr: u16) -> u16
     }
 }
 
-fn rom_byte(s: &[u8], kind: u8, image: &[u8], addr: u16) -> u8
-    requires in_bounds { 64 ≤ length s.now }
-    requires kind_value { fit_cart (cart_at s.now kind) ≡ true }
+fn rom_byte(s: &[u8; 64], kind: u8, image: &[u8], addr: u16) -> u8
+    requires { fit_cart (cart_at s.now kind) ≡ true }
     ensures { result ≡ bus.rom_byte (cart_at s.now kind) image.now addr }
 {
     let banks = u16::read(s, 8);
@@ -210,9 +202,8 @@ fn timed_byte(m: Mbc3, size: usize, ram: &[u8], addr: u16) -> u8
     timer::read(m)
 }
 
-fn ram_byte(s: &[u8], kind: u8, ram: &[u8], addr: u16) -> u8
-    requires in_bounds { 64 ≤ length s.now }
-    requires ram_len { length ram.now ≡ area_of (cart_at s.now kind) }
+fn ram_byte(s: &[u8; 64], kind: u8, ram: &[u8], addr: u16) -> u8
+    requires { length ram.now ≡ area_of (cart_at s.now kind) }
     ensures { result ≡ window.read_of (mapper_at s.now kind) (field_at 8 s.now 24) ram.now addr }
 {
     let size = u64::read(s, 24) as usize;

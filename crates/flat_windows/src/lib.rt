@@ -2,7 +2,7 @@
 // A kind stays the byte that C keeps, as in `flat`.
 #![tactic(auto)]
 
-ghost use Rattle.std.specs.Prelude.{◌≡◌, ◌≤◌, length, None};
+ghost use Rattle.std.specs.Prelude.{◌≡◌, ◌≤◌, None};
 ghost use Rattle.mapper.specs.declared.Mapper.TheVariants as by;
 ghost use Rattle.states.specs.Reading.{decode_of, mapper_at};
 ghost use Rattle.states.specs.OnState.{on_state};
@@ -25,9 +25,8 @@ fn mbc3_at(m: Mbc3, size: usize) -> RamWindow
     windows::asks(m)
 }
 
-fn ram_at(s: &[u8], kind: u8, size: usize) -> RamWindow
-    requires in_bounds { 64 ≤ length s.now }
-    requires size_bound { size ≤ 0x20000 }
+fn ram_at(s: &[u8; 64], kind: u8, size: usize) -> RamWindow
+    requires { size ≤ 0x20000 }
     ensures { result ≡ ram_at (mapper_at s.now kind) size }
 {
     match kind {
@@ -43,9 +42,8 @@ fn ram_at(s: &[u8], kind: u8, size: usize) -> RamWindow
 }
 
 // The windows as they stand, by what was mounted and the registers of the kind.
-fn standing(s: &[u8], kind: u8, banks: u16, size: usize) -> Windows
-    requires in_bounds { 64 ≤ length s.now }
-    requires stands { Stands banks size (mapper_at s.now kind) }
+fn standing(s: &[u8; 64], kind: u8, banks: u16, size: usize) -> Windows
+    requires { Stands banks size (mapper_at s.now kind) }
     ensures { result ≡ windows_by banks size (mapper_at s.now kind) }
 {
     let low = flat::bank_0(s, kind);

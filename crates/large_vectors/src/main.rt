@@ -1,11 +1,8 @@
 // The verdict on images of many sizes, up to 8,388,608 bytes and one more. header_lines has the recipe of an image and says what
-// a line tells. The bytes that they are parts of stand on the heap: a stack has no room for them.
+// a line tells.
 #![tactic(auto)]
 
-ghost use Rattle.std.specs.Prelude.{◌≡◌, IfOk, vec_len};
-
 use header_lines::{Codes, build, cut, made, show};
-use std::alloc::{AllocError, Global};
 use std::io;
 
 fn sized(rt: &impl Print, image: &mut [u8], length: usize, codes: Codes) -> io::Result<()> {
@@ -116,13 +113,7 @@ fn all(rt: &impl Print, image: &mut [u8]) -> io::Result<()> {
     spoilt(rt, image)
 }
 
-fn zeros(alloc: Global) -> Result<Vec<u8>, AllocError>
-    ensures { IfOk result (λ image. vec_len image ≡ 0x800001) }
-{
-    vec![in alloc; 0; 0x800001]
-}
-
 fn main(rt: HostRuntime) -> io::Result<()> {
-    let mut image = zeros(rt.alloc())?;
+    let mut image = bus_recipe::blank(rt.alloc(), 0x800001)?;
     all(&rt, image.as_mut_slice())
 }

@@ -35,6 +35,7 @@ fn kind_number(kind: Kind, multicart: bool) -> u32
     mount::start(kind, multicart, 0).kind() as u32
 }
 
+// Here and in the next each kind is named, so that a new one has to be placed.
 fn has_timer(kind: Kind) -> bool
     ensures { result ≡ has_timer kind }
 {

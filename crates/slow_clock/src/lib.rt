@@ -63,20 +63,23 @@ fn tick(c: Clock) -> Clock {
     Clock { sub: next, ..c }
 }
 
-pub fn ticks(start: Clock, n: u64) -> Clock {
+// A step made n times.
+fn repeated<F: Fn(Clock) -> Clock + Drop>(start: Clock, n: u64, step: F) -> Clock
+    requires { F.IsAlwaysCallable step }
+{
     let mut c = start;
     for _ in 0..n {
-        c = tick(c);
+        c = step(c);
     }
     c
 }
 
+pub fn ticks(start: Clock, n: u64) -> Clock {
+    repeated(start, n, tick)
+}
+
 pub fn seconds(start: Clock, n: u64) -> Clock {
-    let mut c = start;
-    for _ in 0..n {
-        c = whole(c);
-    }
-    c
+    repeated(start, n, whole)
 }
 
 fn same_registers(a: Registers, b: Registers) -> bool {

@@ -280,8 +280,7 @@ pub fn mbc5_in(s: &[u8]) -> Mbc5
     }
 }
 
-fn cart_in(s: &[u8], mapper: Mapper) -> Cartridge
-    requires { 64 ≤ length s.now }
+fn cart_in(s: &[u8; 64], mapper: Mapper) -> Cartridge
     ensures { result ≡ cart_in s.now mapper }
 {
     Cartridge {

@@ -15,43 +15,43 @@ pub load-requires : goal.load-requires
 unfolding mapper_at
 load-requires c =
     lent_within (NoMapper c.new.result) _ c.args.addr (ap Bytes c.ram_at.ensures)
-    (area_at c.args.s.now c.in-0.is (ap NoMapper c.new.ensures) c.read-size.ensures c.requires.ram_len)
+    (area_at c.args.s.now c.in-0.is (ap NoMapper c.new.ensures) c.read-size.ensures c.requires)
 
 pub load-requires-in-1 : goal.load-requires-in-1
 unfolding mapper_at
 load-requires-in-1 c =
     lent_within (Mbc1 c.mbc1_in.result) _ c.args.addr (ap Bytes c.ram_at-in-1.ensures)
-    (area_at c.args.s.now c.in-1.is (ap Mbc1 c.mbc1_in.ensures) c.read-size.ensures c.requires.ram_len)
+    (area_at c.args.s.now c.in-1.is (ap Mbc1 c.mbc1_in.ensures) c.read-size.ensures c.requires)
 
 pub load-requires-in-2 : goal.load-requires-in-2
 unfolding mapper_at
 load-requires-in-2 c =
     lent_within (Mbc1 c.mbc1_in-in-2.result) _ c.args.addr (ap Bytes c.ram_at-in-2.ensures)
-    (area_at c.args.s.now c.in-2.is (ap Mbc1 c.mbc1_in-in-2.ensures) c.read-size.ensures c.requires.ram_len)
+    (area_at c.args.s.now c.in-2.is (ap Mbc1 c.mbc1_in-in-2.ensures) c.read-size.ensures c.requires)
 
 pub half_byte-requires : goal.half_byte-requires
 unfolding mapper_at
 half_byte-requires c =
-    area_at c.args.s.now c.in-3.is (ap Mbc2 c.mbc2_in.ensures) c.read-size.ensures c.requires.ram_len
+    area_at c.args.s.now c.in-3.is (ap Mbc2 c.mbc2_in.ensures) c.read-size.ensures c.requires
 
 pub untimed_byte-requires : goal.untimed_byte-requires
 unfolding mapper_at
 untimed_byte-requires c =
     record {
-      ram_len = area_at c.args.s.now c.in-4.is (ap Mbc3 c.untimed_in.ensures) c.read-size.ensures c.requires.ram_len;
+      ram_len = area_at c.args.s.now c.in-4.is (ap Mbc3 c.untimed_in.ensures) c.read-size.ensures c.requires;
       timer_value = ap (λ (m : mbc3-state.Mbc3). m.timer) c.untimed_in.ensures;
     }
 
 pub timed_byte-requires : goal.timed_byte-requires
 unfolding mapper_at
 timed_byte-requires c =
-    area_at c.args.s.now c.in-5.is (ap Mbc3 c.timed_in.ensures) c.read-size.ensures c.requires.ram_len
+    area_at c.args.s.now c.in-5.is (ap Mbc3 c.timed_in.ensures) c.read-size.ensures c.requires
 
 pub load-requires-in-6 : goal.load-requires-in-6
 unfolding mapper_at
 load-requires-in-6 c =
     lent_within (Mbc5 c.mbc5_in.result) _ c.args.addr (ap Bytes c.ram_at-in-6.ensures)
-    (area_at c.args.s.now c.in-6.is (ap Mbc5 c.mbc5_in.ensures) c.read-size.ensures c.requires.ram_len)
+    (area_at c.args.s.now c.in-6.is (ap Mbc5 c.mbc5_in.ensures) c.read-size.ensures c.requires)
 
 pub load-requires-in_default : goal.load-requires-in_default
 load-requires-in_default c =
@@ -61,7 +61,7 @@ load-requires-in_default c =
     (ap NoMapper c.new-in_default.ensures
     ∙ no_mapper_at c.args.s.now c.args.kind
     (past_last _ m.0.0.0.0.0.0.1 m.0.0.0.0.0.1 m.0.0.0.0.1 m.0.0.0.1 m.0.0.1 m.0.1 m.1))
-    c.read-size.ensures c.requires.ram_len)
+    c.read-size.ensures c.requires)
 
 pub returns-in-0 : goal.returns-in-0
 unfolding mapper_at window.read_of

@@ -1,7 +1,6 @@
 -- `flat::read` meets its contract: fit or not, and by the verdict.
 use Rattle.facts.proofs.Handed.{handed_on}
 use Rattle.std.specs.Prelude.{Ok}
-use borrow.Author.Rules.{rules}
 use mathlib.Core.Path.{ap, ◌∙◌}
 use Rattle.flat.proofs.Laws.{unfit_read, fit_cart_lem, area_lent, fit_read}
 use mathlib.Core.Bool.{not}
@@ -15,19 +14,13 @@ returns-then-not-fit c =
 pub rom_byte-requires : goal.rom_byte-requires
 rom_byte-requires c =
     let a = c.args in
-    record {
-      in_bounds = search rules;
-      kind_value = fit_cart_lem a.s.now c.read-kind.ensures c.fit.ensures (ap not c.if-not-fit.false);
-    }
+    fit_cart_lem a.s.now c.read-kind.ensures c.fit.ensures (ap not c.if-not-fit.false)
 
 pub ram_byte-requires : goal.ram_byte-requires
 ram_byte-requires c =
     let a = c.args in
-    record {
-      in_bounds = search rules;
-      ram_len = area_lent a.s.now a.image.now a.ram.now a.addr c.read-kind.ensures c.fit.ensures (ap not c.if-not-fit.false)
-          c.lent-lent.ensures c.decide.ensures (c.in_ok-target.was ∙ ap Ok c.in-Ram.is);
-    }
+    area_lent a.s.now a.image.now a.ram.now a.addr c.read-kind.ensures c.fit.ensures (ap not c.if-not-fit.false)
+    c.lent-lent.ensures c.decide.ensures (c.in_ok-target.was ∙ ap Ok c.in-Ram.is)
 
 pub returns-in-Rom : goal.returns-in-Rom
 returns-in-Rom c =

@@ -11,14 +11,11 @@ use Rattle.flat.proofs.rom_byte.Goals as goal
 
 pub bank_at-bank-requires : goal.bank_at-bank-requires
 bank_at-bank-requires c =
-    record {
-      in_bounds = c.requires.in_bounds;
-      kind_value = fit_registers_lem (cart_at c.args.s.now c.args.kind) c.requires.kind_value;
-    }
+    fit_registers_lem (cart_at c.args.s.now c.args.kind) c.requires
 
 pub rom_place-requires : goal.rom_place-requires
 rom_place-requires c =
-    omega (arith, c.read-banks.ensures, fit_banks (cart_at c.args.s.now c.args.kind) c.requires.kind_value)
+    omega (arith, c.read-banks.ensures, fit_banks (cart_at c.args.s.now c.args.kind) c.requires)
 
 pub returns : goal.returns
 returns c =

@@ -1,5 +1,4 @@
 -- `flat_windows::of` meets its contract: what fit bytes give is what the windows ask.
-use borrow.Author.Rules.{rules}
 use Rattle.flat_windows.proofs.Laws.{unfit_asked, bytes_stand, fit_asked}
 use mathlib.Core.Bool.{not}
 use mathlib.Core.Path.{ap}
@@ -13,11 +12,8 @@ returns-then-not-fit c =
 pub standing-requires : goal.standing-requires
 standing-requires c =
     let a = c.args in
-    record {
-      in_bounds = search rules;
-      stands = bytes_stand a.s.now c.read-kind.ensures c.fit.ensures (ap not c.if-not-fit.false) c.read-banks.ensures
-          c.read-size.ensures;
-    }
+    bytes_stand a.s.now c.read-kind.ensures c.fit.ensures (ap not c.if-not-fit.false) c.read-banks.ensures
+    c.read-size.ensures
 
 pub returns : goal.returns
 returns c =

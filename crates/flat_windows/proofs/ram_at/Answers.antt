@@ -12,23 +12,23 @@ use Rattle.flat_windows.proofs.ram_at.Goals as goal
 
 pub bytes_at-requires : goal.bytes_at-requires
 bytes_at-requires c =
-    way_small (NoMapper c.new.result) c.args.size 0xA000 c.requires.size_bound (ap Bytes c.ram_at.ensures)
+    way_small (NoMapper c.new.result) c.args.size 0xA000 c.requires (ap Bytes c.ram_at.ensures)
 
 pub bytes_at-requires-in-1 : goal.bytes_at-requires-in-1
 bytes_at-requires-in-1 c =
-    way_small (Mbc1 c.mbc1_in.result) c.args.size 0xA000 c.requires.size_bound (ap Bytes c.ram_at-in-1.ensures)
+    way_small (Mbc1 c.mbc1_in.result) c.args.size 0xA000 c.requires (ap Bytes c.ram_at-in-1.ensures)
 
 pub bytes_at-requires-in-2 : goal.bytes_at-requires-in-2
 bytes_at-requires-in-2 c =
-    way_small (Mbc1 c.mbc1_in-in-2.result) c.args.size 0xA000 c.requires.size_bound (ap Bytes c.ram_at-in-2.ensures)
+    way_small (Mbc1 c.mbc1_in-in-2.result) c.args.size 0xA000 c.requires (ap Bytes c.ram_at-in-2.ensures)
 
 pub bytes_at-requires-in-6 : goal.bytes_at-requires-in-6
 bytes_at-requires-in-6 c =
-    way_small (Mbc5 c.mbc5_in.result) c.args.size 0xA000 c.requires.size_bound (ap Bytes c.ram_at-in-6.ensures)
+    way_small (Mbc5 c.mbc5_in.result) c.args.size 0xA000 c.requires (ap Bytes c.ram_at-in-6.ensures)
 
 pub bytes_at-requires-in_default : goal.bytes_at-requires-in_default
 bytes_at-requires-in_default c =
-    way_small (NoMapper c.new-in_default.result) c.args.size 0xA000 c.requires.size_bound (ap Bytes c.ram_at-in_default.ensures)
+    way_small (NoMapper c.new-in_default.result) c.args.size 0xA000 c.requires (ap Bytes c.ram_at-in_default.ensures)
 
 pub returns-in-0 : goal.returns-in-0
 unfolding mapper_at
