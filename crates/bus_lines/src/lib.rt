@@ -82,6 +82,12 @@ fn read(rt: &impl Print, cart: Cartridge, rom: &[u8], ram: &[u8], addr: u16) -> 
     }
 }
 
+// A refusal has its number for a line, and the cartridge stays.
+fn refused(rt: &impl Print, cart: Cartridge, why: u8) -> io::Result<Cartridge> {
+    number(rt, b'X', why as u64)?;
+    Ok(cart)
+}
+
 fn write(
     rt: &impl Print,
     cart: Cartridge,
@@ -94,10 +100,7 @@ fn write(
             line(rt, b'W', addr, byte)?;
             Ok(next)
         }
-        Err(why) => {
-            number(rt, b'X', why.number() as u64)?;
-            Ok(cart)
-        }
+        Err(why) => refused(rt, cart, why.number()),
     }
 }
 
@@ -111,10 +114,7 @@ fn quiet(
 ) -> io::Result<Cartridge> {
     match bus::write(cart, ram, addr, byte) {
         Ok(next) => Ok(next),
-        Err(why) => {
-            number(rt, b'X', why.number() as u64)?;
-            Ok(cart)
-        }
+        Err(why) => refused(rt, cart, why.number()),
     }
 }
 
@@ -124,10 +124,7 @@ fn advance(rt: &impl Print, cart: Cartridge, n: u64) -> io::Result<Cartridge> {
             number(rt, b'C', n)?;
             Ok(next)
         }
-        Err(why) => {
-            number(rt, b'X', why.number() as u64)?;
-            Ok(cart)
-        }
+        Err(why) => refused(rt, cart, why.number()),
     }
 }
 

@@ -2,6 +2,15 @@
 -- definitions that the demands' theorems speak of: a contract that cites another definition, or none, is refused here.
 use Rattle.std.specs.Prelude.{option_copied}
 use lib.ListN.{length}
+use Rattle.bytes_le.specs.Little.{field_at, put_at}
+use Rattle.bytes_le.proofs.U8Field.read.Reads as u8-read
+use Rattle.bytes_le.proofs.U8Field.write.Reads as u8-write
+use Rattle.bytes_le.proofs.U16Field.read.Reads as u16-read
+use Rattle.bytes_le.proofs.U16Field.write.Reads as u16-write
+use Rattle.bytes_le.proofs.U32Field.read.Reads as u32-read
+use Rattle.bytes_le.proofs.U32Field.write.Reads as u32-write
+use Rattle.bytes_le.proofs.U64Field.read.Reads as u64-read
+use Rattle.bytes_le.proofs.U64Field.write.Reads as u64-write
 use Rattle.utf8.specs.Utf8.{is_utf8}
 use Rattle.utf8.proofs.is_utf8.Reads as is-utf8
 use Rattle.image.specs.Image as image
@@ -48,6 +57,31 @@ use Rattle.trace.proofs.next_record.Reads as next-record
 use Rattle.replay_program.specs.Written as program
 use Rattle.replay_program.proofs.write.Reads as program-write
 use Rattle.determined.specs.Determined.{Says, SaysLeft}
+
+-- `bytes_le::Field` at each type: the trait alone fixes neither the width nor the number
+pub u8_read_says : Says u8-read.Learnt (λ k a. field_at 1 a.0.now a.1.0)
+u8_read_says k a x s p = p
+
+pub u8_write_says : SaysLeft u8-write.Learnt (λ k s. s.0.now) (λ k a. put_at 1 a.0.now a.1.0 a.1.1.0)
+u8_write_says k a x s p = p
+
+pub u16_read_says : Says u16-read.Learnt (λ k a. field_at 2 a.0.now a.1.0)
+u16_read_says k a x s p = p
+
+pub u16_write_says : SaysLeft u16-write.Learnt (λ k s. s.0.now) (λ k a. put_at 2 a.0.now a.1.0 a.1.1.0)
+u16_write_says k a x s p = p
+
+pub u32_read_says : Says u32-read.Learnt (λ k a. field_at 4 a.0.now a.1.0)
+u32_read_says k a x s p = p
+
+pub u32_write_says : SaysLeft u32-write.Learnt (λ k s. s.0.now) (λ k a. put_at 4 a.0.now a.1.0 a.1.1.0)
+u32_write_says k a x s p = p
+
+pub u64_read_says : Says u64-read.Learnt (λ k a. field_at 8 a.0.now a.1.0)
+u64_read_says k a x s p = p
+
+pub u64_write_says : SaysLeft u64-write.Learnt (λ k s. s.0.now) (λ k a. put_at 8 a.0.now a.1.0 a.1.1.0)
+u64_write_says k a x s p = p
 
 -- `image::byte_at`, `padded_len` and `checksum`; `utf8::is_utf8`
 pub byte_at_says : Says byte_at.Learnt (λ k a. image.byte_at a.0.now a.1.0)
