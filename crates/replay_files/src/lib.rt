@@ -2,7 +2,7 @@
 // them. No byte of the text is chosen here.
 #![tactic(auto)]
 
-ghost use Rattle.std.specs.Prelude.{◌≡◌, ◌≤◌, length, IfOk};
+ghost use Rattle.std.specs.Prelude.{◌≡◌, ◌≤◌, length, option_copied, IfOk, IfSome};
 
 use std::io::Read;
 use std::rt::Files;
@@ -32,7 +32,9 @@ fn read_full(reader: &mut impl Read, room: &mut [u8]) -> io::Result<usize>
 
 // The bytes of a file, read into the room. One that was read whole leaves nothing to read behind it. A path that is no UTF-8 names no
 // file.
-fn fetch<'a>(rt: &impl Files, path: &[u8], room: &'a mut [u8]) -> Option<&'a [u8]> {
+fn fetch<'a>(rt: &impl Files, path: &[u8], room: &'a mut [u8]) -> Option<&'a [u8]>
+    ensures { IfSome (option_copied result) (λ bytes. length bytes ≤ length room.old) }
+{
     let mut more = [0u8; 1];
     if let Ok(path) = str::from_utf8(path)
         && let Ok(mut file) = fs::open(rt, path)
