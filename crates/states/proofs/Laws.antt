@@ -34,6 +34,10 @@ pub timed_stored : (m : mbc3-state.Mbc3) (s : List ℕ) {r t : List ℕ} → m.t
 unfolding stored
 timed_stored m s e p q = store_on (clock m.clock) p q ∙ ap (λ (b : Bool). stored (mbc3_fields m b) s) (sym e)
 
+pub untimed_stored : (m : mbc3-state.Mbc3) (s : List ℕ) {r : List ℕ} → m.timer ≡ false
+    → r ≡ stored (registers m.enabled m.memory m.bank m.ram 0) s → r ≡ stored (mapper (Mbc3 m)) s
+untimed_stored m s e p = p ∙ ap (λ (b : Bool). stored (mbc3_fields m b) s) (sym e)
+
 -- what was mounted, then the mapper
 pub encoded : (m : Mapper) (battery : Bool) (banks length size : ℕ) {k : ℕ} {r t : List ℕ} → k ≡ kind_of m
     → r ≡ stored (board_of k battery banks length size) (replicate 64 0) → t ≡ stored (mapper m) r
