@@ -144,7 +144,7 @@ pub fn imf_write(state: &mut [u8; 64], ram: &mut [u8], addr: u16, byte: u8) -> u
     ensures ram_after { ram.new ≡ area_written state.old ram.old addr byte }
 {
     match flat_write::write(state, ram, addr, byte) {
-        Ok(()) => 0,
+        Ok(()) => 0, // Also where nothing is mapped.
         Err(why) => why.number() as u32,
     }
 }
@@ -155,7 +155,7 @@ pub fn imf_advance(state: &mut [u8; 64], n: u64) -> u32
     ensures state_after { state.new ≡ state_advanced state.old n }
 {
     match flat_write::advance(state, n) {
-        Ok(()) => 0,
+        Ok(()) => 0, // Also without a timer, where nothing moves.
         Err(why) => why.number() as u32,
     }
 }
@@ -292,7 +292,7 @@ pub fn imf_window_read(windows: &[u32; 6], image: &[u8], ram: &[u8], addr: u16) 
     match windows::read(windows_in(windows), image, ram, addr) {
         Ok(b) => b as u32,
         Err(Miss::BadAddress) => REFUSED + 15,
-        Err(Miss::Ask) => ASK,
+        Err(Miss::Ask) => ASK, // The state is asked for the byte.
     }
 }
 
@@ -304,6 +304,6 @@ pub fn imf_window_write(windows: &[u32; 6], ram: &mut [u8], addr: u16, byte: u8)
     match windows::write(windows_in(windows), ram, addr, byte) {
         Ok(()) => 0,
         Err(Miss::BadAddress) => 15,
-        Err(Miss::Ask) => ASK,
+        Err(Miss::Ask) => ASK, // The state takes the byte.
     }
 }
