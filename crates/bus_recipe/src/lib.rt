@@ -5,6 +5,8 @@
 pub mod build;
 pub mod draw;
 pub mod steps;
+#[cfg(test)]
+mod tests;
 
 ghost use Rattle.std.specs.Prelude.{◌≡◌, IfOk, vec_len};
 
