@@ -51,7 +51,7 @@ struct ByTick;
 
 struct BySecond;
 
-// A whole second: the registers and the time. A time with no room stands, and then differs from every answer.
+// A whole second: the registers and the time. A time with no room stands.
 impl Step for BySecond {
     fn step(c: Clock) -> Clock {
         if c.time == 0xFFFF_FFFF_FFFF_FFFF {
